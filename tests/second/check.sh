@@ -1,0 +1,115 @@
+#!/bin/sh
+# Builds the second replay into a temporary folder and tests it; under a minute. Usage: check.sh [SEEDS [COUNT]]
+set -eu
+here=$(cd "$(dirname "$0")" && pwd)
+seeds=${1:-3}
+count=${2:-4000}
+work=$(mktemp -d)
+trap 'rm -rf "$work"' EXIT
+export ASAN_OPTIONS=detect_leaks=0 # that search takes seconds for each run; one run below has it
+logs="python3 $here/../logs.py"
+fail() { echo "FAILED: $*"; exit 1; }
+
+cd "$here"
+flags="-std=c11 -Wall -Wextra -Wpedantic -Wconversion -Wshadow -Werror"
+sanitize="-g -O1 -fsanitize=address,undefined -fno-sanitize-recover=all"
+program="main.c both.c replay.c rules.c"
+gcc $flags -O2 -o "$work/second" $program
+gcc $flags -O2 -DNDEBUG -o "$work/quick" $program
+gcc $flags $sanitize -o "$work/careful" $program
+gcc $flags $sanitize -o "$work/unit" unit.c replay.c rules.c
+echo "built plain, quick (no asserts) and careful (sanitizers)"
+
+"$work/unit" || fail unit
+
+$logs samples "$work/samples"
+for expected in "$work"/samples/*.expected; do
+    for program in second quick careful; do
+        "$work/$program" printed < "${expected%.expected}" | cmp - "$expected" || fail "$program $expected"
+    done
+done
+echo "samples $(ls "$work"/samples/*.expected | wc -l) as expected"
+
+# An empty input, a short one and a dropped tail.
+[ "$(printf '' | "$work/careful" printed)" = "uptime 0" ] || fail empty
+[ "$(printf 'fifteen bytes..' | "$work/careful" printed)" = "uptime 0" ] || fail short
+(cat "$work/samples/printed"; printf 'tail') | "$work/careful" printed |
+    cmp - "$work/samples/printed.expected" || fail tail
+
+numbers() {
+    awk '$1 != "uptime" { n[$2]++ } END { for (i = 0; i < 15; i++) if (n[i]) printf " %d:%d", i, n[i] }' "$@"
+}
+
+# $1 names a log: both builds with asserts and the Python model give the same lines.
+compare() {
+    "$work/careful" printed < "$work/$1" > "$work/$1.lines" || fail "$1 careful"
+    "$work/second" printed < "$work/$1" | cmp - "$work/$1.lines" || fail "$1 plain"
+    $logs replay < "$work/$1" | cmp - "$work/$1.lines" || fail "$1 against the model"
+}
+
+# $1 names a log, $2 a number that its lines must have.
+must_occur() { grep -q "^[0-9]* $2 " "$work/$1.lines" || fail "$1 has no number $2"; }
+
+$logs edges > "$work/edges"
+compare edges
+for n in 0 1 2 3 4 5 6 7 8 9 10 11 12; do must_occur edges $n; done
+echo "edges:$(numbers "$work/edges.lines")"
+
+suitable() {
+    case $1 in
+    mixed) echo 1 2 3 4 5 6 7 8 9 10 11 12 ;;
+    ticks) echo 1 2 3 4 5 6 12 ;;
+    semaphores) echo 1 2 3 4 5 6 7 10 12 ;;
+    messages) echo 1 2 4 5 6 7 8 9 ;;
+    events) echo 1 2 3 4 5 6 ;;
+    priorities) echo 1 2 4 5 6 7 ;;
+    regions) echo 1 2 3 4 5 6 7 11 ;;
+    senseless) echo 1 2 ;;
+    esac
+}
+
+for family in mixed ticks semaphores messages events priorities regions senseless; do
+    for seed in $(seq "$seeds"); do
+        $logs $family $seed $count > "$work/$family.$seed"
+        compare $family.$seed
+        [ "$count" -lt 4000 ] || for n in $(suitable $family); do must_occur $family.$seed $n; done
+    done
+    echo "$family, $seeds seeds of $count:$(numbers "$work/$family".*.lines)"
+done
+
+# The mode both: good lines agree, each kind of bad line is found.
+fake() { python3 "$here/fake_both.py" "$1" < "$work/$2" > "$work/fake"; }
+agrees() {
+    "$work/careful" both "$work/fake" < "$work/$1" > "$work/said" || fail "both $1: $(cat "$work/said")"
+    cat "$work/said"
+}
+differs() {
+    if "$work/careful" both "$work/bad" < "$work/mixed.1" > "$work/said"; then fail "both missed: $1"; fi
+    grep -q "^differ at line $2:" "$work/said" || fail "both, $1: $(cat "$work/said")"
+}
+fake 96 mixed.1
+(export ASAN_OPTIONS=detect_leaks=1; agrees mixed.1)
+[ "$(wc -l < "$work/fake")" -gt "$count" ] || fail fake
+sed '7s/ [0-9]* \([0-9]*\)$/ 99 \1/' "$work/fake" > "$work/bad"; differs "a wrong runner" 7
+line=$(awk 'NR > 8 && $2 == 0 { print NR; exit }' "$work/fake")
+awk -v n="$line" 'NR == n { $0 = n " 13 255 " runner " 0" } { runner = $4; print }' "$work/fake" > "$work/bad"
+differs "a 13 with room" "$line"
+line=$(grep -n '^back' "$work/fake" | sed -n '5s/:.*//p')
+sed "${line}s/ 0 / 15 /" "$work/fake" > "$work/bad"; differs "a failed undo" "$line"
+sed "${line}s/\$/0/" "$work/fake" > "$work/bad"; differs "a wrong used" "$line"
+sed "${line}d" "$work/fake" > "$work/bad"; differs "a missing undo" "$line"
+last=$(wc -l < "$work/fake")
+sed 's/^fresh$/other/' "$work/fake" > "$work/bad"; differs "not fresh" "$last"
+sed '$d' "$work/fake" > "$work/bad"; differs "no last line" "$last"
+(cat "$work/fake"; echo more) > "$work/bad"; differs "a line too many" $((last + 1))
+fake 27 mixed.1; mv "$work/fake" "$work/bad"
+differs "notes too short" "$(awk '$5 == 27 { print NR; exit }' "$work/bad")"
+fake 97 mixed.1; mv "$work/fake" "$work/bad"
+differs "notes too long" "[0-9]*"
+cat "$work"/semaphores.? "$work"/events.? "$work"/regions.? > "$work/long"
+fake 96 long; agrees long
+grep -c '^[0-9]* 13 ' "$work/fake" | sed 's/$/ times number 13 in a full log/'
+
+"$work/quick" rounds < "$work/mixed.1"
+"$work/careful" rounds < "$work/samples/printed"
+echo "second: all checks passed"
