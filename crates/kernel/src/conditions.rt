@@ -1,7 +1,8 @@
 // What a thread's condition says.
 ghost use mathlib.Core.Path.{_≡_};
 ghost use Rattle.kernel.specs.Conditions.{readyFor, isReady, masks, awaits};
-use crate::records::{Condition, Thread};
+use crate::records::Condition;
+use crate::records::Thread;
 
 pub fn ready_for(c: Condition) -> bool
     ensures { λ r. ⌜ r ≡ readyFor c ⌝ }

@@ -8,7 +8,8 @@ ghost use Rattle.kernel.specs.Records.{noThread, noMessage};
 ghost use Rattle.kernel.specs.Places.{hasHome, rankOf, isQueued, streamOf};
 ghost use Rattle.kernel.specs.Moves.{rejoined, restored, ranksAfter, wakesAfter, postAfter, relocate, putThreadBack, repost, putMessageBack};
 use crate::places;
-use crate::records::{Message, Thread};
+use crate::records::Message;
+use crate::records::Thread;
 use queue::Queue;
 
 // The part of the state that threads move in.

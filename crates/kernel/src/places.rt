@@ -1,7 +1,9 @@
 // Where a record has its place, as numbers that order the tables.
 ghost use mathlib.Core.Path.{_≡_};
 ghost use Rattle.kernel.specs.Places.{homeOf, hasHome, rankOf, isQueued, streamOf};
-use crate::records::{Condition, Message, Thread};
+use crate::records::Condition;
+use crate::records::Message;
+use crate::records::Thread;
 
 // The home of a thread that stands in no list and no queue.
 pub const NOWHERE: u16 = 1024;

@@ -25,7 +25,7 @@ use Rattle.rules.specs.Rules.{SemaphorePlaces, EventPlaces, LiveSemaphor
 use Rattle.rules.specs.Rules.{WaitersAtZero, CountsAtMost, TrueWithoutWaiters, NoneAwaited, LiveOwners, ChannelPlaces, NoOtherPosts}
 use Rattle.rules.specs.Rules.{PrioritySizes, MaskSizes, ReplySizes, MaximumSizes, MessageSizes, FirstRuns, SomeRuns}
 use Rattle.rules.specs.Rules.{TicksLeft, PeriodicTicks, OtherTicks, UnperiodicTicks, DeadThreads, DeadSemaphores, DeadMessages}
-use Rattle.rules.proofs.Records.{ConditionKept, KeptThread, KeptSemaphore, KeptMessage}
+use Rattle.rules.proofs.OfRecords.{ConditionKept, KeptThread, KeptSemaphore, KeptMessage}
 use Rattle.rules.proofs.Homes.{Housed, stands}
 use Rattle.rules.proofs.Runner.{first-place}
 use Rattle.rules.proofs.Whole.{Whole, live-below, homes, timed}

@@ -18,7 +18,7 @@ use Rattle.kernel.specs.Records.{thread, semaphore}
 use Rattle.kernel.specs.Conditions.{isReady, waitsForSemaphore, waitsForEvent}
 use Rattle.kernel.specs.Places.{homeOf, hasHome, line, nowhere}
 use Rattle.rules.specs.Rules.{ReadyPlaces, SemaphorePlaces, EventPlaces, NoOtherPlaces}
-use Rattle.rules.proofs.Records.{ConditionKept, KeptThread}
+use Rattle.rules.proofs.OfRecords.{ConditionKept, KeptThread}
 
 -- ---- a thread's home
 -- where homes lie

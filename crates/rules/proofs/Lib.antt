@@ -1,5 +1,5 @@
-pub mod Records
-pub mod Tables
+pub mod OfRecords
+pub mod OfTables
 pub mod Homes
 pub mod Runner
 pub mod Whole

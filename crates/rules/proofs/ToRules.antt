@@ -23,7 +23,7 @@ use Rattle.rules.specs.Rules.{LiveSemaphores, LiveEvents, NoOtherPlaces,
 use Rattle.rules.specs.Rules.{WaitersAtZero, CountsAtMost, TrueWithoutWaiters, NoneAwaited, LiveOwners, ChannelPlaces, NoOtherPosts}
 use Rattle.rules.specs.Rules.{PrioritySizes, MaskSizes, ReplySizes, MaximumSizes, MessageSizes, FirstRuns, SomeRuns}
 use Rattle.rules.specs.Rules.{TicksLeft, PeriodicTicks, OtherTicks, UnperiodicTicks, DeadThreads, DeadSemaphores, DeadMessages}
-use Rattle.rules.proofs.Records.{live-or-not, ConditionKept}
+use Rattle.rules.proofs.OfRecords.{live-or-not, ConditionKept}
 use Rattle.rules.proofs.Homes.{Housed, cond-one, ready-places, semaphore-places, event-places}
 use Rattle.rules.proofs.Runner.{nobody, first-place}
 use Rattle.rules.proofs.Whole.{Whole, homes, conditions, timed}

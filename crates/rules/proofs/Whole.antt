@@ -16,9 +16,9 @@ use Rattle.kernel.specs.Runner.{chosen}
 use Rattle.kernel.specs.Standing.{threadsOf, postsOf, Standing, Filed}
 use Rattle.rules.specs.Rules.{Sized}
 use Rattle.rules.specs.Tests.{keepsRules, runnerKept}
-use Rattle.rules.proofs.Records.{zero-iff, eqb-iff, live-or-not, ConditionKept, KeptThread, KeptSemaphore, KeptMessage}
-use Rattle.rules.proofs.Records.{threads-exactly, semaphores-exactly, messages-exactly}
-use Rattle.rules.proofs.Tables.{standing-exactly, filed-exactly}
+use Rattle.rules.proofs.OfRecords.{zero-iff, eqb-iff, live-or-not, ConditionKept, KeptThread, KeptSemaphore, KeptMessage}
+use Rattle.rules.proofs.OfRecords.{threads-exactly, semaphores-exactly, messages-exactly}
+use Rattle.rules.proofs.OfTables.{standing-exactly, filed-exactly}
 use Rattle.rules.proofs.Homes.{Housed, housed}
 
 -- each record is kept, everybody stands in place, and the right thread runs

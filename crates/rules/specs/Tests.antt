@@ -21,7 +21,6 @@ use Rattle.kernel.specs.Places.{hasHome, rankOf, isQueued, streamOf}
 use Rattle.kernel.specs.Events.{isTrue}
 use Rattle.kernel.specs.Runner.{chosen}
 
-
 -- all of a list
 abbrev pub allOf : List Bool → Bool
 allOf [] = true

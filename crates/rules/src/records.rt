@@ -1,7 +1,12 @@
 // Whether a record keeps the rules that speak of it, and of the object that it names.
 ghost use mathlib.Core.Path.{_≡_};
 ghost use Rattle.rules.specs.Tests.{noWake, isNoThread, isNoSemaphore, isNoMessage, semaphoreWaited, eventWaited, conditionKept, liveThreadKept, threadKept, liveSemaphoreKept, semaphoreKept, liveMessageKept, messageKept};
-use kernel::records::{Condition, Event, Message, Semaphore, Thread, Wake};
+use kernel::records::Condition;
+use kernel::records::Event;
+use kernel::records::Message;
+use kernel::records::Semaphore;
+use kernel::records::Thread;
+use kernel::records::Wake;
 
 fn no_wake(w: Wake) -> bool
     ensures { λ r. ⌜ r ≡ noWake w ⌝ }
@@ -100,7 +105,13 @@ fn event_waited(events: [Event; 8], bits: u32, i: u8) -> bool
     !kernel::events::is_true(bits, e)
 }
 
-fn condition_kept(semaphores: [Semaphore; 16], events: [Event; 8], bits: u32, ticks: u32, c: Condition) -> bool
+fn condition_kept(
+    semaphores: [Semaphore; 16],
+    events: [Event; 8],
+    bits: u32,
+    ticks: u32,
+    c: Condition,
+) -> bool
     ensures { λ b. ⌜ b ≡ conditionKept semaphores events bits ticks c ⌝ }
 {
     match c {
@@ -169,7 +180,11 @@ fn live_semaphore_kept(r: Semaphore) -> bool
 pub fn semaphore_kept(r: Semaphore) -> bool
     ensures { λ b. ⌜ b ≡ semaphoreKept r ⌝ }
 {
-    if r.live { live_semaphore_kept(r) } else { is_no_semaphore(r) }
+    if r.live {
+        live_semaphore_kept(r)
+    } else {
+        is_no_semaphore(r)
+    }
 }
 
 fn live_message_kept(threads: [Thread; 32], r: Message) -> bool
@@ -196,5 +211,9 @@ fn live_message_kept(threads: [Thread; 32], r: Message) -> bool
 pub fn message_kept(threads: [Thread; 32], r: Message) -> bool
     ensures { λ b. ⌜ b ≡ messageKept threads r ⌝ }
 {
-    if r.live { live_message_kept(threads, r) } else { is_no_message(r) }
+    if r.live {
+        live_message_kept(threads, r)
+    } else {
+        is_no_message(r)
+    }
 }

@@ -5,7 +5,8 @@ ghost use Rattle.queue.specs.Tables.{one, isPlaced};
 ghost use Rattle.kernel.specs.Places.{hasHome, isQueued};
 ghost use Rattle.rules.specs.Tests.{isTicking, inRank, inTime, inStream};
 use kernel::places;
-use kernel::records::{Message, Thread};
+use kernel::records::Message;
+use kernel::records::Thread;
 use queue::Queue;
 
 // How often one that belongs, or doesn't, stands in a table.
