@@ -4,12 +4,14 @@ use mathlib.Core.Path.{_≡_, refl, sym, ap}
 use mathlib.Core.Bool.{Bool, true, false, cond, _&&_, and-comm, and-eq-true-iff}
 use mathlib.Core.List.{List, [], _∷_, _++_}
 use Prim.Native.Nat.{ℕ, zero, suc, _+_, _≤_, _<_}
+use native.Mathlib.Numerals.{add-one}
 use native.Mathlib.Omega.{arith}
 use lib.ListN.{length, take, drop, getD, length-append, take-append-drop}
 use lib.Dec.{eqb, ltb}
 use borrow.Author.Tests.{eqb-true, eqb-false, eq-eqb, ne-eqb, ltb-true, ltb-false, not-true}
 use borrow.Table.Steps.{cases}
 use Rattle.queue.specs.Lists.{keep, everyFrom, isNot, without, count, placeOf, withAt, behind, below}
+use Rattle.queue.proofs.Lists.{keep-append, count-append, length-withAt}
 use Rattle.queue.specs.Tables.{placeBehind}
 
 -- the test of a number with itself
@@ -101,11 +103,6 @@ keep-keep f g (y ∷ l) = cases (g y) (λ e. simp (e, keep-keep f g l)) (λ e. s
 pub keep-keep-swap : (f g : ℕ → Bool) (l : List ℕ) → keep f (keep g l) ≡ keep g (keep f l)
 keep-keep-swap f g l = simp keep-keep (keep-same l (λ x _. and-comm (g x) (f x)))
 
--- what is kept of two lists in a row
-pub keep-append : (f : ℕ → Bool) (a b : List ℕ) → keep f (a ++ b) ≡ keep f a ++ keep f b
-keep-append f [] b = refl
-keep-append f (y ∷ a) b = cases (f y) (λ e. simp (e, keep-append f a b)) (λ e. simp (e, keep-append f a b))
-
 -- ---- without x
 -- x is gone
 pub count-without-same : (x : ℕ) (l : List ℕ) → count x (without x l) ≡ 0
@@ -146,12 +143,6 @@ pigeon (suc n) l h z =
     (λ x b. cases (eqb x n) (λ e. rw (count-keep, e)) (λ e. rw (count-keep, e) (z x (omega (arith, eqb-false x n e))))) in
     omega (arith, length-without n l, h n)
 
--- ---- x joins at a place
--- how often a number stands in two lists in a row
-pub count-append : (u : ℕ) (a b : List ℕ) → count u (a ++ b) ≡ count u a + count u b
-count-append u [] b = omega arith
-count-append u (y ∷ a) b = let r = count-append u a b in cases (eqb y u) (λ e. rw e (omega arith)) (λ e. rw e (omega arith))
-
 -- each stands there as often as if x had joined in front
 pub count-withAt : (u i x : ℕ) (l : List ℕ) → count u (withAt i x l) ≡ count u (x ∷ l)
 count-withAt u i x l =
@@ -165,10 +156,6 @@ count-withAt-same i x l = rw (count-withAt, same)
 -- the others as often as before
 pub count-withAt-other : (i : ℕ) {u x : ℕ} (l : List ℕ) → (u ≡ x → ⊥) → count u (withAt i x l) ≡ count u l
 count-withAt-other i {u} {x} l h = rw (count-withAt, ne-eqb x u (λ e. h (sym e)))
-
--- one more
-pub length-withAt : (i x : ℕ) (l : List ℕ) → length (withAt i x l) ≡ suc (length l)
-length-withAt i x l = let r = rw length-append at (ap length (take-append-drop i l)) in rw length-append (omega arith)
 
 -- a test that does not hold of x does not see it come
 pub keep-withAt-past : (f : ℕ → Bool) (i x : ℕ) (l : List ℕ) → f x ≡ false → keep f (withAt i x l) ≡ keep f l
@@ -191,7 +178,7 @@ module _ (after : ℕ → Bool) (x : ℕ) (l : List ℕ) where
 
   -- one more
   pub length-behind : length (behind after x l) ≡ suc (length l)
-  length-behind = rw (behind-place after x l, length-withAt)
+  length-behind = rw (behind-place after x l, length-withAt x (placeBehind after l) l, add-one)
 
   -- a test that does not hold of x does not see it come
   pub keep-behind-past : (f : ℕ → Bool) → f x ≡ false → keep f (behind after x l) ≡ keep f l

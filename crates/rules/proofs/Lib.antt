@@ -1,3 +1,4 @@
+pub mod Loops
 pub mod OfRecords
 pub mod OfTables
 pub mod Homes

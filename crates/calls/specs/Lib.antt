@@ -1,0 +1,4 @@
+pub mod Calls
+pub mod Kinds
+pub mod Refusals
+pub mod Named

@@ -1,0 +1,4 @@
+pub mod Bytes
+pub mod Pens
+pub mod Rows
+pub mod Logs

@@ -1,0 +1,4 @@
+-- The laws that the functions' proofs share.
+pub mod ByKind
+pub mod Pulses
+pub mod LawsOfTime

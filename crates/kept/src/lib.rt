@@ -1,0 +1,1 @@
+// What every accepted call keeps: theorems about the definitions, with no code.

@@ -1,0 +1,136 @@
+-- A record's row gives the record back, so rows that are the same mean equal records.
+use Prim.Native.Nat.{ℕ, _<_}
+use mathlib.Core.Path.{_≡_, refl, sym, ap, _∙_}
+use mathlib.Core.Bool.{Bool, true, false, not, and-eq-true-iff, false≢true}
+use mathlib.Core.List.{List, [], _∷_}
+use native.Mathlib.Omega.{arith}
+use lib.Dec.{eqb}
+use lib.ListN.{getD, drop}
+use borrow.Author.Tests.{eqb-true}
+use borrow.Table.Steps.{cases}
+use Rattle.queue.specs.Tables.{one}
+use Rattle.kernel.specs.declared.records.Condition.{Condition}
+use Rattle.kernel.specs.declared.records.Condition.the-variants.{Ready, Asleep, ForSemaphore, ForEvent, ForMessage}
+use Rattle.kernel.specs.declared.records.Object.{Object}
+use Rattle.kernel.specs.declared.records.Wake.{Wake}
+use Rattle.kernel.specs.declared.records.Thread.{Thread}
+use Rattle.kernel.specs.declared.records.Semaphore.{Semaphore}
+use Rattle.kernel.specs.declared.records.Event.{Event}
+use Rattle.kernel.specs.declared.records.Message.{Message}
+use Rattle.kernel.specs.Records.{noThread}
+use Rattle.calls.specs.declared.call.Call.{Call}
+use Rattle.calls.specs.Refusals.{is}
+use Rattle.notes.specs.Rows.{conditionCode, threadCode, conditionData, wakeCode, threadRow, conditionFrom, wakeFrom, threadFrom}
+use Rattle.notes.specs.Rows.{semaphoreRow, semaphoreFrom, eventRow, eventFrom, messageRow, messageFrom}
+use Rattle.notes.specs.Touched.{sameRow, sameThread, sameSemaphore, sameEvent, sameMessage, youngerThread}
+
+-- ---- a field
+code-live : (c : Condition) → not (eqb (conditionCode c) 0) ≡ true
+code-live Ready = refl
+code-live Asleep = refl
+code-live (ForSemaphore i) = refl
+code-live (ForEvent i) = refl
+code-live (ForMessage mask) = refl
+
+condition-back : (c : Condition) → conditionFrom (conditionCode c) (conditionData c) ≡ c
+unfolding conditionFrom
+condition-back Ready = refl
+condition-back Asleep = refl
+condition-back (ForSemaphore i) = refl
+condition-back (ForEvent i) = refl
+condition-back (ForMessage mask) = refl
+
+wake-back : (w : Wake) → wakeFrom (wakeCode w) ≡ w
+unfolding wakeFrom
+wake-back Wake.None = refl
+wake-back Wake.Met = refl
+wake-back (Wake.TimedOut Object.Semaphore) = refl
+wake-back (Wake.TimedOut Object.Event) = refl
+wake-back (Wake.TimedOut Object.Message) = refl
+
+flag-back : (b : Bool) → not (eqb (one b) 0) ≡ b
+flag-back true = refl
+flag-back false = refl
+
+pub flag-below : (b : Bool) → one b < 256
+flag-below true = omega arith
+flag-below false = omega arith
+
+-- ---- a record
+-- every field of a thread that isn't live is 0
+abbrev pub Dead : Thread → Type 0
+Dead r = r .live ≡ false → r ≡ noThread
+
+pub thread-back : (r : Thread) (place due : ℕ) → Dead r → threadFrom (threadCode r) (threadRow r place due) ≡ r
+unfolding threadFrom conditionFrom wakeFrom
+thread-back r place due D =
+    cases (r .live)
+    (λ e. let l : not (eqb (threadCode r) 0) ≡ r .live = rw e (code-live (r .condition)) in
+    let c : conditionFrom (threadCode r) (conditionData (r .condition)) ≡ r .condition = rw e (condition-back (r .condition)) in
+    λ i. record {
+      live = l i;
+      priority = r .priority;
+      first = r .first;
+      condition = c i;
+      ticks = r .ticks;
+      wake = wake-back (r .wake) i;
+      reply = r .reply;
+    })
+    (λ e. rw (D e))
+
+pub semaphore-back : (r : Semaphore) → semaphoreFrom (semaphoreRow r) ≡ r
+unfolding semaphoreFrom
+semaphore-back r =
+    λ i. record { live = flag-back (r .live) i; count = r .count; maximum = r .maximum; ticks = r .ticks; period = r .period }
+
+pub event-back : (r : Event) → eventFrom (eventRow r) ≡ r
+unfolding eventFrom
+event-back r = λ i. record { any = flag-back (r .any) i; mask = r .mask; values = r .values }
+
+pub message-back : (r : Message) (place : ℕ) → messageFrom (messageRow r place) ≡ r
+unfolding messageFrom
+message-back r place =
+    λ i. record {
+      live = flag-back (r .live) i;
+      owner = r .owner;
+      sender = r .sender;
+      kind = r .kind;
+      size = r .size;
+      address = r .address;
+      channel = r .channel;
+    }
+
+-- ---- the same
+same-row : (xs ys : List ℕ) → sameRow xs ys ≡ true → xs ≡ ys
+same-row [] [] h = refl
+same-row [] (y ∷ ys) h = absurd (false≢true h)
+same-row (x ∷ xs) [] h = absurd (false≢true h)
+same-row (x ∷ xs) (y ∷ ys) h =
+    let (e, r) = and-eq-true-iff (eqb x y) (sameRow xs ys) .0 h in rw (eqb-true x y e, same-row xs ys r)
+
+-- records that their rows give back
+same-means : {A : Type 0} (row : A → List ℕ) (from : List ℕ → A) {r s : A} → from (row r) ≡ r → from (row s) ≡ s
+    → sameRow (row r) (row s) ≡ true → r ≡ s
+same-means row from {r} {s} p q h = sym p ∙ ap from (same-row (row r) (row s) h) ∙ q
+
+pub same-thread : (r s : Thread) → Dead r → Dead s → sameThread r s ≡ true → r ≡ s
+unfolding sameThread
+same-thread r s D E h =
+    same-means (λ r. threadCode r ∷ threadRow r 0 0) (λ row. threadFrom (getD row 0 0) (drop 1 row)) (thread-back r 0 0 D) (thread-back s 0 0 E) h
+
+pub same-semaphore : (r s : Semaphore) → sameSemaphore r s ≡ true → r ≡ s
+unfolding sameSemaphore
+same-semaphore r s h = same-means semaphoreRow semaphoreFrom (semaphore-back r) (semaphore-back s) h
+
+pub same-event : (r s : Event) → sameEvent r s ≡ true → r ≡ s
+unfolding sameEvent
+same-event r s h = same-means eventRow eventFrom (event-back r) (event-back s) h
+
+pub same-message : (r s : Message) → sameMessage r s ≡ true → r ≡ s
+unfolding sameMessage
+same-message r s h = same-means (λ r. messageRow r 0) messageFrom (message-back r 0) (message-back s 0) h
+
+-- one that isn't live was none
+pub younger-dead : (c : Call) (r : Thread) → Dead r → Dead (youngerThread c r)
+unfolding youngerThread
+younger-dead c r D e = rw (D e) (cases (is c 1) (λ f. rw f) (λ f. rw f))

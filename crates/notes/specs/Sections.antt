@@ -1,0 +1,69 @@
+-- The five sections of a note.
+use Prim.Native.Nat.{ℕ, zero, suc, _+_}
+use mathlib.Core.Bool.{Bool, true, false, not, cond, _&&_, _||_}
+use mathlib.Core.List.{List, [], _∷_, _++_}
+use lib.Dec.{eqb, ltb}
+use Rattle.queue.specs.Tables.{oldPlace}
+use Rattle.queue.specs.Queues.{items}
+use Rattle.coding.specs.Rows.{flagsOf, bodyOf}
+use Rattle.kernel.specs.declared.records.Kernel.{Kernel}
+use Rattle.kernel.specs.Records.{thread, semaphore, event, message}
+use Rattle.calls.specs.declared.call.Call.{Call}
+use Rattle.calls.specs.Refusals.{is, isOneOf}
+use Rattle.notes.specs.Rows.{threadCode, threadRow, threadWidths, semaphoreRow, semaphoreWidths, eventRow, eventWidths, messageRow, messageWidths, schedulerRow, schedulerWidths}
+use Rattle.notes.specs.Touched.{touchedThread, touchedSemaphore, touchedEvent, touchedMessage}
+use Rattle.notes.specs.Predicted.{predictedThread, predictedSemaphore, predictedEvent, predictedMessage, predictedScheduler}
+
+-- the entries of the touched ones of n ids from i on
+abbrev pub entriesFrom : (ℕ → Bool) → (ℕ → List ℕ) → ℕ → ℕ → List ℕ
+entriesFrom touched entry i zero = []
+entriesFrom touched entry i (suc n) = let r = entriesFrom touched entry (suc i) n in cond (touched i) (entry i ++ r) r
+
+-- the flags of what isn't as predicted, and those fields
+abbrev pub flagged : List ℕ → List ℕ → List ℕ → List ℕ
+flagged widths old predicted = flagsOf old predicted ∷ bodyOf widths old predicted
+
+-- a thread before: its id, its code, and what isn't as predicted of its record and its places
+unfoldable pub threadEntry : Kernel → Call → Kernel → ℕ → List ℕ
+threadEntry k c k′ t =
+    t
+    ∷ threadCode (thread k t)
+    ∷ flagged threadWidths (threadRow (thread k t) (oldPlace t (items (k .places))) (oldPlace t (items (k .time))))
+      (predictedThread c (thread k′ t) (threadCode (thread k t)))
+
+unfoldable pub semaphoreEntry : Kernel → Call → Kernel → ℕ → List ℕ
+semaphoreEntry k c k′ i = i ∷ flagged semaphoreWidths (semaphoreRow (semaphore k i)) (predictedSemaphore c (semaphore k′ i))
+
+unfoldable pub eventEntry : Kernel → Call → Kernel → ℕ → List ℕ
+eventEntry k c k′ i = i ∷ flagged eventWidths (eventRow (event k i)) (predictedEvent (event k′ i))
+
+unfoldable pub messageEntry : Kernel → Call → Kernel → ℕ → List ℕ
+messageEntry k c k′ m =
+    m
+    ∷ flagged messageWidths (messageRow (message k m) (oldPlace m (items (k .posted))))
+      (predictedMessage c (k′ .runner) (message k′ m))
+
+unfoldable pub threadsSection : Kernel → Call → Kernel → List ℕ
+threadsSection k c k′ = entriesFrom (touchedThread k c k′) (threadEntry k c k′) 0 32
+
+unfoldable pub semaphoresSection : Kernel → Call → Kernel → List ℕ
+semaphoresSection k c k′ = entriesFrom (touchedSemaphore k c k′) (semaphoreEntry k c k′) 0 16
+
+-- a byte 8 where bit a was the other way, then the events
+unfoldable pub eventsSection : Kernel → Call → Kernel → List ℕ
+eventsSection k c k′ =
+    cond (eqb (k .bits) (k′ .bits)) [] (8 ∷ []) ++ entriesFrom (touchedEvent k c k′) (eventEntry k c k′) 0 8
+
+unfoldable pub messagesSection : Kernel → Call → Kernel → List ℕ
+messagesSection k c k′ = entriesFrom (touchedMessage k c k′) (messageEntry k c k′) 0 64
+
+-- "the old runner with both levels 0 is the first ready one of the old state": it is written only where a level was held
+abbrev pub heldRunner : Kernel → Kernel → ℕ
+heldRunner k k′ = cond (eqb (k .unscheduled + k .critical) 0) (k′ .runner) (k .runner)
+
+abbrev pub unlessPredicted : List ℕ → List ℕ → List ℕ → List ℕ
+unlessPredicted widths old predicted = cond (eqb (flagsOf old predicted) 0) [] (flagged widths old predicted)
+
+unfoldable pub schedulerSection : Kernel → Call → Kernel → List ℕ
+schedulerSection k c k′ =
+    unlessPredicted schedulerWidths (schedulerRow (k .unscheduled) (k .critical) (heldRunner k k′)) (predictedScheduler c k′)

@@ -1,0 +1,67 @@
+-- `objects::semaphores::post` meets its contract: 255 says that nobody waits, and any other id is the first of the queue.
+use Prim.Native.Nat.{ℕ}
+use mathlib.Core.Path.{_≡_, refl, sym, _∙_}
+use mathlib.Core.Bool.{true, false≢true}
+use mathlib.Core.List.{List, [], _∷_}
+use native.Mathlib.Omega.{arith}
+use lib.ListN.{length, length-map}
+use borrow.Author.Tests.{eq-eqb}
+use borrow.Author.Needs.{needs}
+use Rattle.queue.specs.Lists.{isEmpty}
+use Rattle.kernel.specs.Places.{semaphoreQueue}
+use Rattle.seek.proofs.Firsts.{first-empty, first-head}
+use Rattle.objects.specs.Semaphores.{post}
+use Rattle.objects.proofs.semaphores.post.Statement.{statement}
+use Rattle.objects.proofs.semaphores.post.Tie as tie
+
+empty : (l : List ℕ) → isEmpty l ≡ true → l ≡ []
+empty [] h = refl
+empty (x ∷ l) h = absurd (false≢true h)
+
+add-first-of-line : tie.Need-add-first-of-line
+add-first-of-line c = search needs
+
+first-of-line-requires : tie.Need-first-of-line-requires
+first-of-line-requires c κs = search needs
+
+semaphore-at-requires : tie.Need-semaphore-at-requires
+semaphore-at-requires c κs = search needs
+
+raised-requires : tie.Need-raised-requires
+raised-requires c κs = search needs
+
+with-semaphore-requires : tie.Need-with-semaphore-requires
+with-semaphore-requires c κs = search needs
+
+returns : tie.Need-returns
+unfolding post
+returns c =
+    let s = c .before .before .before .before .before .before .before .before in
+    let k = s .args .k in
+    let f = c .before .before .before .before .before .first-of-line .ensures in
+    let e : length (k .threads) ≡ 32 = sym (length-map (k .threads) _) ∙ s .good .0 .1 .1 .0 .1 .0 .1 in
+    let z : semaphoreQueue k (s .args .i) ≡ [] = empty _ (sym (first-empty (k .threads) e (k .places) (omega arith)) ∙ eq-eqb _ _ (sym f ∙ c .before .before .before .before .if1 .taken)) in
+    rw (z, c .with-semaphore .ensures, c .before .raised .ensures, c .before .before .semaphore-at .ensures)
+
+wake-requires : tie.Need-wake-requires
+wake-requires c κs = search needs
+
+returns-2 : tie.Need-returns-2
+unfolding post
+returns-2 c =
+    let k = c .before .before .before .before .before .args .k in
+    let f = c .before .before .first-of-line .ensures in
+    rw (first-head (k .threads) (k .places) _ (λ z. c .before .if1 .left (f ∙ z)), c .wake .ensures, f)
+
+pub post-spec : {M : Type 1} → statement M
+post-spec =
+    tie.close
+    (tie.spec
+    add-first-of-line
+    first-of-line-requires
+    semaphore-at-requires
+    raised-requires
+    with-semaphore-requires
+    returns
+    wake-requires
+    returns-2)

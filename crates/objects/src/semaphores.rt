@@ -1,0 +1,127 @@
+// Semaphores: create, destroy, periodic, pend and post.
+ghost use mathlib.Core.Path.{_≡_};
+ghost use Rattle.threads.specs.Parts.{withSemaphore};
+ghost use Rattle.objects.specs.Semaphores.{withCount, withTicks, createSemaphore, destroySemaphore, makePeriodic, removePeriodic, pendSemaphore, raised, post, postSemaphore};
+use calls::call::Call;
+use kernel::records::Condition;
+use kernel::records::Kernel;
+use kernel::records::Semaphore;
+use kernel::records::Wake;
+use seek::free;
+use seek::lines;
+use seek::records;
+use threads::parts;
+
+pub fn with_semaphore(k: Kernel, i: u8, r: Semaphore) -> Kernel
+    ensures { λ x. ⌜ x ≡ withSemaphore i r k ⌝ }
+{
+    let mut next = k;
+    if i < 16 {
+        let j = i as usize;
+        next.semaphores[j] = r;
+    }
+    next
+}
+
+fn with_count(r: Semaphore, n: u16) -> Semaphore
+    ensures { λ x. ⌜ x ≡ withCount n r ⌝ }
+{
+    let mut next = r;
+    next.count = n;
+    next
+}
+
+pub fn with_ticks(r: Semaphore, ticks: u32, period: u32) -> Semaphore
+    ensures { λ x. ⌜ x ≡ withTicks ticks period r ⌝ }
+{
+    let mut next = r;
+    next.ticks = ticks;
+    next.period = period;
+    next
+}
+
+pub fn create_semaphore(k: Kernel, c: Call) -> Kernel
+    ensures { λ x. ⌜ x ≡ createSemaphore k c ⌝ }
+{
+    let semaphores = k.semaphores;
+    let i = free::free_semaphore(semaphores);
+    let r = Semaphore {
+        live: true,
+        count: c.b,
+        maximum: (c.c % 65536) as u16,
+        ticks: 0,
+        period: 0,
+    };
+    with_semaphore(k, i, r)
+}
+
+pub fn destroy_semaphore(k: Kernel, c: Call) -> Kernel
+    ensures { λ x. ⌜ x ≡ destroySemaphore k c ⌝ }
+{
+    let none = Semaphore {
+        live: false,
+        count: 0,
+        maximum: 0,
+        ticks: 0,
+        period: 0,
+    };
+    with_semaphore(k, c.a, none)
+}
+
+pub fn make_periodic(k: Kernel, c: Call) -> Kernel
+    ensures { λ x. ⌜ x ≡ makePeriodic k c ⌝ }
+{
+    let semaphores = k.semaphores;
+    let r = records::semaphore_at(semaphores, c.a);
+    with_semaphore(k, c.a, with_ticks(r, c.c, c.d))
+}
+
+pub fn remove_periodic(k: Kernel, c: Call) -> Kernel
+    ensures { λ x. ⌜ x ≡ removePeriodic k c ⌝ }
+{
+    let semaphores = k.semaphores;
+    let r = records::semaphore_at(semaphores, c.a);
+    with_semaphore(k, c.a, with_ticks(r, 0, 0))
+}
+
+pub fn pend_semaphore(k: Kernel, c: Call) -> Kernel
+    ensures { λ x. ⌜ x ≡ pendSemaphore k c ⌝ }
+{
+    let semaphores = k.semaphores;
+    let r = records::semaphore_at(semaphores, c.a);
+    if 0 < r.count {
+        return with_semaphore(k, c.a, with_count(r, r.count - 1));
+    }
+    threads::threads::block(k, Condition::ForSemaphore(c.a), c.c)
+}
+
+// One more, up to the maximum.
+fn raised(r: Semaphore) -> Semaphore
+    ensures { λ x. ⌜ x ≡ raised r ⌝ }
+{
+    if r.count < r.maximum {
+        return with_count(r, r.count + 1);
+    }
+    r
+}
+
+// The first waiter wakes; without waiters the count goes up.
+pub fn post(k: Kernel, i: u8) -> Kernel
+    ensures { λ x. ⌜ x ≡ post i k ⌝ }
+{
+    let threads = k.threads;
+    let places = k.places;
+    let first = lines::first_of_line(threads, places, 256 + (i as u16));
+    if first == 255 {
+        let semaphores = k.semaphores;
+        let r = records::semaphore_at(semaphores, i);
+        return with_semaphore(k, i, raised(r));
+    }
+    threads::threads::wake(k, first, Wake::Met)
+}
+
+pub fn post_semaphore(k: Kernel, c: Call) -> Kernel
+    ensures { λ x. ⌜ x ≡ postSemaphore k c ⌝ }
+{
+    post(k, c.a)
+}

@@ -1,0 +1,2 @@
+// The public face: a call on a state.
+pub mod step;

@@ -1,0 +1,58 @@
+-- `seek::free::free_thread` meets its contract: the i threads passed are live.
+use Prim.Native.Nat.{_-_}
+use native.Mathlib.Omega.{arith}
+use borrow.Author.Needs.{needs}
+use borrow.Author.Tests.{not-true, not-false}
+use Rattle.kernel.specs.Records.{noThread}
+use Rattle.seek.proofs.Lowest.{Passed, free-here, free-next, free-end}
+use Rattle.seek.proofs.free.free_thread.Statement.{statement}
+use Rattle.seek.proofs.free.free_thread.Tie as tie
+
+abbrev Inv-loop : tie.InvT-loop
+Inv-loop threads i₀ i = Passed (λ x. x .live) threads 32 i
+
+abbrev μ-loop : tie.MeasureT-loop
+μ-loop threads i₀ i = 32 - i
+
+loop-holds : tie.Need-loop-holds Inv-loop μ-loop
+loop-holds c = search needs
+
+mul-if1 : tie.Need-mul-if1 Inv-loop μ-loop
+mul-if1 c = search needs
+
+element-copy-out-if1 : tie.Need-element-copy-out-if1 Inv-loop μ-loop
+element-copy-out-if1 c = search needs
+
+cast-result : tie.Need-cast-result Inv-loop μ-loop
+cast-result c = search needs
+
+returns : tie.Need-returns Inv-loop μ-loop
+returns c = free-here (λ x. x .live) _ _ (c .before .before .loop .inv) noThread (omega arith) (not-true _ (c .if1 .taken))
+
+add-i : tie.Need-add-i Inv-loop μ-loop
+add-i c = search needs
+
+loop-less : tie.Need-loop-less Inv-loop μ-loop
+loop-less c = search needs
+
+loop-again : tie.Need-loop-again Inv-loop μ-loop
+loop-again c = free-next (λ x. x .live) _ _ (c .before .before .loop .inv) noThread (omega arith) (not-false _ (c .if1 .left))
+
+returns-2 : tie.Need-returns-2 Inv-loop μ-loop
+returns-2 c = free-end (λ x. x .live) _ _ (c .before .loop .inv) (omega arith)
+
+pub free-thread-spec : {M : Type 1} → statement M
+free-thread-spec =
+    tie.close
+    (tie.spec
+    Inv-loop
+    μ-loop
+    loop-holds
+    mul-if1
+    element-copy-out-if1
+    cast-result
+    returns
+    add-i
+    loop-less
+    loop-again
+    returns-2)

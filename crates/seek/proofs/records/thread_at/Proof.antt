@@ -1,0 +1,26 @@
+-- `seek::records::thread_at` meets its contract: an id of a record reads it, and past the last the default is what the code writes.
+use mathlib.Core.Path.{_≡_, sym}
+use lib.ListN.{length}
+use borrow.Author.Needs.{needs}
+use Rattle.kernel.specs.Records.{noThread}
+use Rattle.kernel.proofs.Joins.{past-end}
+use Rattle.seek.proofs.records.thread_at.Statement.{statement}
+use Rattle.seek.proofs.records.thread_at.Tie as tie
+
+mul-result : tie.Need-mul-result
+mul-result c = search needs
+
+array-copy-out-result : tie.Need-array-copy-out-result
+array-copy-out-result c = search needs
+
+returns : tie.Need-returns
+returns c = search needs
+
+returns-2 : tie.Need-returns-2
+returns-2 c =
+    let a = c .before .args in
+    let e : length (a .t1) ≡ 32 = search needs in
+    sym (past-end (a .t1) noThread e (c .if1 .left))
+
+pub thread-at-spec : {M : Type 1} → statement M
+thread-at-spec = tie.close (tie.spec mul-result array-copy-out-result returns returns-2)

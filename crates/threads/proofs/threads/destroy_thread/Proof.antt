@@ -1,0 +1,18 @@
+-- `threads::threads::destroy_thread` meets its contract: its messages are freed, and it gets the record of no thread.
+use borrow.Author.Needs.{needs}
+use Rattle.threads.specs.Threads.{destroyThread}
+use Rattle.threads.proofs.threads.destroy_thread.Statement.{statement}
+use Rattle.threads.proofs.threads.destroy_thread.Tie as tie
+
+free-messages-requires : tie.Need-free-messages-requires
+free-messages-requires c κs = search needs
+
+placed-requires : tie.Need-placed-requires
+placed-requires c κs = search needs
+
+returns : tie.Need-returns
+unfolding destroyThread
+returns c = rw (c .placed .ensures, c .before .free-messages .ensures)
+
+pub destroy-thread-spec : {M : Type 1} → statement M
+destroy-thread-spec = tie.close (tie.spec free-messages-requires placed-requires returns)

@@ -1,0 +1,82 @@
+// The two moves over the whole state, and the scheduler.
+ghost use mathlib.Core.Path.{_≡_};
+ghost use Rattle.threads.specs.Parts.{withThreads, place, file, scheduled};
+ghost use Rattle.kernel.specs.Standing.{threadsOf};
+use kernel::moves;
+use kernel::moves::Posts;
+use kernel::moves::Threads;
+use kernel::records::Kernel;
+use kernel::records::Message;
+use kernel::records::Thread;
+
+// The part that threads move in.
+pub fn threads_of(k: Kernel) -> Threads
+    ensures { λ r. ⌜ r ≡ threadsOf k ⌝ }
+{
+    let records = k.threads;
+    let places = k.places;
+    let time = k.time;
+    Threads {
+        records: records,
+        places: places,
+        time: time,
+    }
+}
+
+// The state with that part put anew.
+pub fn with_threads(k: Kernel, p: Threads) -> Kernel
+    ensures { λ r. ⌜ r ≡ withThreads p k ⌝ }
+{
+    let records = p.records;
+    let places = p.places;
+    let time = p.time;
+    let mut next = k;
+    next.threads = records;
+    next.places = places;
+    next.time = time;
+    next
+}
+
+// Thread `id` gets the record r and takes its places.
+pub fn placed(k: Kernel, id: u8, r: Thread) -> Kernel
+    ensures { λ x. ⌜ x ≡ place id r k ⌝ }
+{
+    with_threads(k, moves::relocated(threads_of(k), id, r))
+}
+
+// Message `id` gets the record r and takes its place.
+pub fn filed(k: Kernel, id: u8, r: Message) -> Kernel
+    ensures { λ x. ⌜ x ≡ file id r k ⌝ }
+{
+    let records = k.messages;
+    let posted = k.posted;
+    let p = moves::reposted(
+        Posts {
+            records: records,
+            posted: posted,
+        },
+        id,
+        r,
+    );
+    let messages = p.records;
+    let queue = p.posted;
+    let mut next = k;
+    next.messages = messages;
+    next.posted = queue;
+    next
+}
+
+// With both levels at 0 the scheduler chooses.
+pub fn scheduled(k: Kernel) -> Kernel
+    ensures { λ r. ⌜ r ≡ scheduled k ⌝ }
+{
+    if k.unscheduled != 0 {
+        return k;
+    }
+    if k.critical != 0 {
+        return k;
+    }
+    let mut next = k;
+    next.runner = kernel::runner::chosen(k);
+    next
+}
