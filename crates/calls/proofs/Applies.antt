@@ -29,6 +29,7 @@ abbrev pub lacks : ℕ → List (ℕ × Bool) → Bool
 lacks n [] = true
 lacks n (t ∷ l) = let r = lacks n l in not (eqb (t .0) n) && r
 
+-- and so its first has another
 pub lacks-head : (n : ℕ) (t : ℕ × Bool) (l : List (ℕ × Bool)) → lacks n (t ∷ l) ≡ true → t .0 ≡ n → ⊥
 lacks-head n t l z = eqb-false (t .0) n (not-true (eqb (t .0) n) (and-left (not (eqb (t .0) n)) (lacks n l) z))
 
@@ -61,6 +62,7 @@ module _ (k : Kernel) (c : Call) where
   abbrev ofMessages : Bool
   ofMessages = isOneOf c (25 ∷ 26 ∷ [])
 
+  -- the conditions of the named records are those of the kernel's
   bad-named : badIdOf (namedBy k c) c ≡ badId k c
   unfolding badIdOf badId namedBy
   bad-named =

@@ -55,9 +55,14 @@ puts-sets l k (b ∷ bytes) h =
 pub puts-room : (l : List ℕ) (k : ℕ) (bytes : List ℕ) → k + length bytes ≤ length l → puts (pen l k) bytes ≡ pen (take k l ++ (bytes ++ drop (k + length bytes) l)) (k + length bytes)
 puts-room l k bytes h = puts-sets l k bytes h ∙ ap (λ m. pen m (k + length bytes)) (sets-eq bytes l k h ∙ append-assoc (take k l) bytes (drop (k + length bytes) l))
 
--- From the front of a log that is long enough: what stands before the place is what was written.
-pub puts-front : (l m bytes : List ℕ) (r : ℕ) → pen m r ≡ puts (pen l 0) bytes → length bytes ≤ length l → (r ≡ length bytes) × (take r m ≡ bytes)
-puts-front l m bytes r e h =
+-- From the front of a log that is long enough,
+pub puts-front : (l bytes : List ℕ) → length bytes ≤ length l → puts (pen l 0) bytes ≡ pen (bytes ++ drop (length bytes) l) (length bytes)
+puts-front l bytes h =
     let z : 0 + length bytes ≡ length bytes = zero-add _ in
-    let f : pen m r ≡ pen (bytes ++ drop (length bytes) l) (length bytes) = e ∙ puts-room l 0 bytes (omega arith) ∙ rw z in
+    puts-room l 0 bytes (omega arith) ∙ rw z
+
+-- what then stands before the place is what was written.
+pub front-written : (l m bytes : List ℕ) (r : ℕ) → pen m r ≡ puts (pen l 0) bytes → length bytes ≤ length l → (r ≡ length bytes) × (take r m ≡ bytes)
+front-written l m bytes r e h =
+    let f : pen m r ≡ pen (bytes ++ drop (length bytes) l) (length bytes) = e ∙ puts-front l bytes h in
     (ap (λ p. p .at) f, ap (λ p. take (p .at) (p .log)) f ∙ take-append-seam bytes (drop (length bytes) l))

@@ -97,7 +97,7 @@ fn field_at(s: &[u8], at: usize, w: u8, flags: u8, predicted: u32) -> u32
     predicted
 }
 
-// How many bytes the first field takes.
+// How many bytes a field takes: its width where the first flag is set, else none.
 fn taken_by(w: u8, flags: u8) -> u8
     ensures { λ r. ⌜ r ≡ taken w flags ⌝ }
 {

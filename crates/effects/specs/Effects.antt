@@ -31,36 +31,36 @@ noKind = plain (λ k c. k)
 abbrev pub kinds : List Kind
 kinds =
     noKind
-    ∷ plain tick -- 1
-    ∷ giving freeThread createThread -- 2
-    ∷ plain destroyThread -- 3
-    ∷ plain setPriority -- 4
-    ∷ plain resetPriority -- 5
-    ∷ plain yielded -- 6
-    ∷ plain sleep -- 7
-    ∷ plain pushUnscheduled -- 8
-    ∷ plain popUnscheduled -- 9
-    ∷ plain popAllUnscheduled -- 10
-    ∷ plain pushCritical -- 11
-    ∷ plain popCritical -- 12
-    ∷ plain popAllCritical -- 13
-    ∷ giving freeSemaphore createSemaphore -- 14
-    ∷ plain destroySemaphore -- 15
-    ∷ plain makePeriodic -- 16
-    ∷ plain removePeriodic -- 17
-    ∷ plain pendSemaphore -- 18
-    ∷ plain postSemaphore -- 19
-    ∷ plain loadEvent -- 20
-    ∷ plain pendEvent -- 21
-    ∷ plain setBit -- 22
-    ∷ plain clearBit -- 23
-    ∷ giving freeMessage createMessage -- 24
-    ∷ plain destroyMessage -- 25
-    ∷ plain postMessage -- 26
-    ∷ record { does = pendMessage; value = λ k c. nextMessage k (c .b) } -- 27
-    ∷ plain postSemaphore -- 28
-    ∷ plain setBit -- 29
-    ∷ plain clearBit -- 30
+    ∷ plain tick  -- 1
+    ∷ giving freeThread createThread  -- 2
+    ∷ plain destroyThread  -- 3
+    ∷ plain setPriority  -- 4
+    ∷ plain resetPriority  -- 5
+    ∷ plain yielded  -- 6
+    ∷ plain sleep  -- 7
+    ∷ plain pushUnscheduled  -- 8
+    ∷ plain popUnscheduled  -- 9
+    ∷ plain popAllUnscheduled  -- 10
+    ∷ plain pushCritical  -- 11
+    ∷ plain popCritical  -- 12
+    ∷ plain popAllCritical  -- 13
+    ∷ giving freeSemaphore createSemaphore  -- 14
+    ∷ plain destroySemaphore  -- 15
+    ∷ plain makePeriodic  -- 16
+    ∷ plain removePeriodic  -- 17
+    ∷ plain pendSemaphore  -- 18
+    ∷ plain postSemaphore  -- 19
+    ∷ plain loadEvent  -- 20
+    ∷ plain pendEvent  -- 21
+    ∷ plain setBit  -- 22
+    ∷ plain clearBit  -- 23
+    ∷ giving freeMessage createMessage  -- 24
+    ∷ plain destroyMessage  -- 25
+    ∷ plain postMessage  -- 26
+    ∷ record { does = pendMessage; value = λ k c. nextMessage k (c .b) }  -- 27
+    ∷ plain postSemaphore  -- 28
+    ∷ plain setBit  -- 29
+    ∷ plain clearBit  -- 30
     ∷ []
 
 unfoldable pub effect : Kernel → Call → Kernel

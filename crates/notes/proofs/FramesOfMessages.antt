@@ -86,7 +86,7 @@ awaits-down (ForEvent i) n h = refl
 awaits-down (ForMessage mask) n h = refl
 
 -- the first of a list is a member
-first-member : (l : List ℕ) → (firstOf l ≡ 255 → ⊥) → 0 < count (firstOf l) l
+pub first-member : (l : List ℕ) → (firstOf l ≡ 255 → ⊥) → 0 < count (firstOf l) l
 first-member [] h = absurd (h refl)
 first-member (x ∷ l) h = count-head x l
 

@@ -1,4 +1,4 @@
--- What a call leaves as it was, and that every field stays within its type.
+-- What a call leaves as it was, that every field stays within its type, the way back, how long a note is, and the undo.
 pub mod Frames
 pub mod FramesOfWakings
 pub mod FramesOfObjects
@@ -16,3 +16,12 @@ pub mod SemaphoresBack
 pub mod EventsBack
 pub mod MessagesBack
 pub mod WayBack
+pub mod EntriesShort
+pub mod Slight
+pub mod TickSlight
+pub mod Lengths
+pub mod FramesRead
+pub mod Yields
+pub mod SameStates
+pub mod AnyNote
+pub mod Undoing

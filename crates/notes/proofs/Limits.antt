@@ -111,7 +111,7 @@ module _ {k : Kernel} (B : Before k) (L : Limits k) where
 
 -- ---- a part is put anew
 -- one record of a list
-set-all : {A : Type 0} (P : A → Type 0) (l : List A) (i : ℕ) (r d : A) → P r → ((j : ℕ) → P (getD l j d))
+pub set-all : {A : Type 0} (P : A → Type 0) (l : List A) (i : ℕ) (r d : A) → P r → ((j : ℕ) → P (getD l j d))
     → (j : ℕ) → P (getD (set l i r) j d)
 set-all P l i r d h f j =
     cases (ltb i (length l))

@@ -101,7 +101,7 @@ message-back r place =
     }
 
 -- ---- the same
-same-row : (xs ys : List ℕ) → sameRow xs ys ≡ true → xs ≡ ys
+pub same-row : (xs ys : List ℕ) → sameRow xs ys ≡ true → xs ≡ ys
 same-row [] [] h = refl
 same-row [] (y ∷ ys) h = absurd (false≢true h)
 same-row (x ∷ xs) [] h = absurd (false≢true h)

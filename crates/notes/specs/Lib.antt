@@ -6,3 +6,8 @@ pub mod Notes
 pub mod Back
 pub mod Within
 pub mod Framed
+pub mod Counts
+pub mod Frames
+pub mod Undo
+pub mod Same
+pub mod Undoes

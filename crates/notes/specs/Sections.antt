@@ -29,7 +29,7 @@ threadEntry k c k′ t =
     t
     ∷ threadCode (thread k t)
     ∷ flagged threadWidths (threadRow (thread k t) (oldPlace t (items (k .places))) (oldPlace t (items (k .time))))
-      (predictedThread c (thread k′ t) (threadCode (thread k t)))
+    (predictedThread c (thread k′ t) (threadCode (thread k t)))
 
 unfoldable pub semaphoreEntry : Kernel → Call → Kernel → ℕ → List ℕ
 semaphoreEntry k c k′ i = i ∷ flagged semaphoreWidths (semaphoreRow (semaphore k i)) (predictedSemaphore c (semaphore k′ i))
@@ -41,7 +41,7 @@ unfoldable pub messageEntry : Kernel → Call → Kernel → ℕ → List ℕ
 messageEntry k c k′ m =
     m
     ∷ flagged messageWidths (messageRow (message k m) (oldPlace m (items (k .posted))))
-      (predictedMessage c (k′ .runner) (message k′ m))
+    (predictedMessage c (k′ .runner) (message k′ m))
 
 unfoldable pub threadsSection : Kernel → Call → Kernel → List ℕ
 threadsSection k c k′ = entriesFrom (touchedThread k c k′) (threadEntry k c k′) 0 32

@@ -1,6 +1,7 @@
 // Document 01's printed replay: records from standard input to its end, a line each, then the uptime.
 ghost use Prim.Native.Nat.{_≤_};
 ghost use lib.ListN.{length};
+
 mod lines;
 
 use calls::call;

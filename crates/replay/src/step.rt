@@ -5,8 +5,8 @@ use calls::call;
 use calls::call::Call;
 use calls::refusals;
 use effects::effect;
-use threads::parts;
 use kernel::records::Kernel;
+use threads::parts;
 
 // What comes back of a call: a number, a value, and who runs (255 for none).
 pub struct Answer {

@@ -1,7 +1,9 @@
 // The lowest free id, or 255 where there is none.
 ghost use mathlib.Core.Path.{_≡_};
 ghost use Rattle.seek.specs.Free.{lowestFree};
-use kernel::records::{Message, Semaphore, Thread};
+use kernel::records::Message;
+use kernel::records::Semaphore;
+use kernel::records::Thread;
 
 pub fn free_thread(threads: [Thread; 32]) -> u8
     ensures { λ r. ⌜ r ≡ lowestFree (λ x. x .live) 0 threads ⌝ }

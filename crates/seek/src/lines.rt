@@ -3,7 +3,8 @@ ghost use mathlib.Core.Path.{_≡_};
 ghost use Rattle.seek.specs.Channels.{isFor, nextOf};
 ghost use Rattle.seek.specs.Lines.{firstOfLine};
 use kernel::places;
-use kernel::records::{Message, Thread};
+use kernel::records::Message;
+use kernel::records::Thread;
 use queue::Queue;
 
 pub fn first_of_line(threads: [Thread; 32], places: Queue, home: u16) -> u8

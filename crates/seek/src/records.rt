@@ -2,7 +2,12 @@
 ghost use mathlib.Core.Path.{_≡_};
 ghost use lib.ListN.{getD};
 ghost use Rattle.kernel.specs.Records.{noThread, noSemaphore, noEvent, noMessage};
-use kernel::records::{Condition, Event, Message, Semaphore, Thread, Wake};
+use kernel::records::Condition;
+use kernel::records::Event;
+use kernel::records::Message;
+use kernel::records::Semaphore;
+use kernel::records::Thread;
+use kernel::records::Wake;
 
 pub fn thread_at(threads: [Thread; 32], t: u16) -> Thread
     ensures { λ r. ⌜ r ≡ getD threads t noThread ⌝ }

@@ -18,14 +18,19 @@ places-stand-requires c κs = search needs
 
 returns-2 : tie.Need-returns-2
 unfolding placesKept
-returns-2 c = rw (passed (c .before .before .before .is-tidy .ensures) (c .before .before .if1 .left), refused (c .before .places-stand .ensures) (c .if2 .taken))
+returns-2 c =
+    let b = c .before .before in
+    rw (passed (b .before .is-tidy .ensures) (b .if1 .left), refused (c .before .places-stand .ensures) (c .if2 .taken))
 
 in-rank-requires : tie.Need-in-rank-requires
 in-rank-requires c κs = search needs
 
 returns-3 : tie.Need-returns-3
 unfolding placesKept
-returns-3 c = rw (passed (c .before .before .before .before .is-tidy .ensures) (c .before .before .before .if1 .left), passed (c .before .before .places-stand .ensures) (c .before .if2 .left), and-true) (c .in-rank .ensures)
+returns-3 c =
+    let b = c .before .before .before in
+    rw (passed (b .before .is-tidy .ensures) (b .if1 .left), passed (c .before .before .places-stand .ensures) (c .before .if2 .left), and-true)
+    (c .in-rank .ensures)
 
 pub places-kept-spec : {M : Type 1} → statement M
 places-kept-spec =

@@ -18,14 +18,19 @@ posts-stand-requires c κs = search needs
 
 returns-2 : tie.Need-returns-2
 unfolding postedKept
-returns-2 c = rw (passed (c .before .before .before .is-tidy .ensures) (c .before .before .if1 .left), refused (c .before .posts-stand .ensures) (c .if2 .taken))
+returns-2 c =
+    let b = c .before .before in
+    rw (passed (b .before .is-tidy .ensures) (b .if1 .left), refused (c .before .posts-stand .ensures) (c .if2 .taken))
 
 in-stream-requires : tie.Need-in-stream-requires
 in-stream-requires c κs = search needs
 
 returns-3 : tie.Need-returns-3
 unfolding postedKept
-returns-3 c = rw (passed (c .before .before .before .before .is-tidy .ensures) (c .before .before .before .if1 .left), passed (c .before .before .posts-stand .ensures) (c .before .if2 .left), and-true) (c .in-stream .ensures)
+returns-3 c =
+    let b = c .before .before .before in
+    rw (passed (b .before .is-tidy .ensures) (b .if1 .left), passed (c .before .before .posts-stand .ensures) (c .before .if2 .left), and-true)
+    (c .in-stream .ensures)
 
 pub posted-kept-spec : {M : Type 1} → statement M
 posted-kept-spec =

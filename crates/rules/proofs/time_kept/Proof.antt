@@ -18,14 +18,19 @@ time-stands-requires c κs = search needs
 
 returns-2 : tie.Need-returns-2
 unfolding timeKept
-returns-2 c = rw (passed (c .before .before .before .is-tidy .ensures) (c .before .before .if1 .left), refused (c .before .time-stands .ensures) (c .if2 .taken))
+returns-2 c =
+    let b = c .before .before in
+    rw (passed (b .before .is-tidy .ensures) (b .if1 .left), refused (c .before .time-stands .ensures) (c .if2 .taken))
 
 in-time-requires : tie.Need-in-time-requires
 in-time-requires c κs = search needs
 
 returns-3 : tie.Need-returns-3
 unfolding timeKept
-returns-3 c = rw (passed (c .before .before .before .before .is-tidy .ensures) (c .before .before .before .if1 .left), passed (c .before .before .time-stands .ensures) (c .before .if2 .left), and-true) (c .in-time .ensures)
+returns-3 c =
+    let b = c .before .before .before in
+    rw (passed (b .before .is-tidy .ensures) (b .if1 .left), passed (c .before .before .time-stands .ensures) (c .before .if2 .left), and-true)
+    (c .in-time .ensures)
 
 pub time-kept-spec : {M : Type 1} → statement M
 time-kept-spec =

@@ -1,6 +1,6 @@
 -- `calls::call::call_of` meets its contract: each field is the number of its bytes.
-use Rattle.calls.specs.Calls.{callOf}
 use borrow.Author.Needs.{needs}
+use Rattle.calls.specs.Calls.{callOf}
 use Rattle.calls.proofs.call.call_of.Statement.{statement}
 use Rattle.calls.proofs.call.call_of.Tie as tie
 

@@ -1,6 +1,6 @@
 -- `calls::kinds::caller_of` meets its contract: the array is the table's first column.
-use Rattle.calls.proofs.Rows.{column-at, column-past}
 use borrow.Author.Needs.{needs}
+use Rattle.calls.proofs.Rows.{column-at, column-past}
 use Rattle.calls.proofs.kinds.caller_of.Statement.{statement}
 use Rattle.calls.proofs.kinds.caller_of.Tie as tie
 

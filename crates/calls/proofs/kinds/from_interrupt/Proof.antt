@@ -1,6 +1,6 @@
 -- `calls::kinds::from_interrupt` meets its contract: the table says who may call.
-use Rattle.calls.specs.Kinds.{fromInterrupt}
 use borrow.Author.Needs.{needs}
+use Rattle.calls.specs.Kinds.{fromInterrupt}
 use Rattle.calls.proofs.kinds.from_interrupt.Statement.{statement}
 use Rattle.calls.proofs.kinds.from_interrupt.Tie as tie
 

@@ -1,6 +1,6 @@
 -- `calls::kinds::from_thread` meets its contract: the table says who may call.
-use Rattle.calls.specs.Kinds.{fromThread}
 use borrow.Author.Needs.{needs}
+use Rattle.calls.specs.Kinds.{fromThread}
 use Rattle.calls.proofs.kinds.from_thread.Statement.{statement}
 use Rattle.calls.proofs.kinds.from_thread.Tie as tie
 

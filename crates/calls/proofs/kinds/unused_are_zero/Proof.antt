@@ -4,9 +4,9 @@ use mathlib.Core.Path.{_≡_}
 use mathlib.Core.Bool.{true}
 use mathlib.Core.Logic.{⊎-elim}
 use native.Mathlib.Omega.{arith}
+use borrow.Author.Needs.{needs}
 use Rattle.calls.specs.Kinds.{rowOf, usedOrZero, unusedAreZero}
 use Rattle.calls.proofs.Rows.{zero-field, used-field, bad-field}
-use borrow.Author.Needs.{needs}
 use Rattle.calls.proofs.kinds.unused_are_zero.Statement.{statement}
 use Rattle.calls.proofs.kinds.unused_are_zero.Tie as tie
 

@@ -1,6 +1,6 @@
 -- `calls::kinds::used_of` meets its contract: the array is the table's second column.
-use Rattle.calls.proofs.Rows.{column-at, column-past}
 use borrow.Author.Needs.{needs}
+use Rattle.calls.proofs.Rows.{column-at, column-past}
 use Rattle.calls.proofs.kinds.used_of.Statement.{statement}
 use Rattle.calls.proofs.kinds.used_of.Tie as tie
 

@@ -4,13 +4,13 @@ use mathlib.Core.Path.{_≡_, refl}
 use mathlib.Core.Bool.{Bool, false}
 use mathlib.Core.Logic.{⊎-elim}
 use native.Mathlib.Omega.{arith}
+use borrow.Author.Needs.{needs}
 use borrow.Author.Tests.{ne-eqb}
 use Rattle.kernel.specs.declared.records.Semaphore.{Semaphore}
 use Rattle.kernel.specs.Records.{thread, semaphore, noSemaphore, noMessage}
 use Rattle.calls.specs.declared.named.Named.{Named}
 use Rattle.calls.specs.Named.{namedBy}
 use Rattle.calls.proofs.Runs.{asKind, run, off}
-use borrow.Author.Needs.{needs}
 use Rattle.calls.proofs.named.named_by.Statement.{statement}
 use Rattle.calls.proofs.named.named_by.Tie as tie
 
@@ -68,6 +68,7 @@ returns-4 c =
     (run (λ m. only (thread (a .k) (a .c .a) .live) noSemaphore ≡ namedBy (a .k) (asKind (a .c) m)) 3 3 (refl, (refl, (refl, tt))) (a .c .kind)
     (c .before .before .before .before .if1 .left) (c .before .before .before .if2 .taken))
 
+-- a kind that names no record
 none : (c : tie.At-match-rest) (t : 3 ≤ c .before .before .args .c .kind → c .before .before .args .c .kind < 6 → ⊥)
     (s : 15 ≤ c .before .before .args .c .kind → c .before .before .args .c .kind < 20 → ⊥)
     → c .before .nothing .result ≡ namedBy (c .before .before .args .k) (c .before .before .args .c)

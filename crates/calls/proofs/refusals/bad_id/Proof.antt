@@ -45,6 +45,7 @@ returns-6 c =
     let bit = run (λ m. ltb 31 (a .c .a) ≡ badIdOf (a .n) (asKind (a .c) m)) 2 in
     ⊎-elim (λ w. bit 22 (z, (z, tt)) (a .c .kind) (c .before .before .if6 .left) (w .taken)) (λ w. bit 29 (z, (z, tt)) (a .c .kind) (omega arith) (w .2 .taken)) (c .before .if7 .came)
 
+-- a kind that names no id
 none : (c : tie.At-match-rest) (t : 3 ≤ c .before .args .c .kind → c .before .args .c .kind < 6 → ⊥)
     (s : 15 ≤ c .before .args .c .kind → c .before .args .c .kind < 24 → ⊥) (b : 28 ≤ c .before .args .c .kind → c .before .args .c .kind < 31 → ⊥)
     → false ≡ badIdOf (c .before .args .n) (c .before .args .c)

@@ -1,9 +1,9 @@
 -- `calls::refusals::bad_number` meets its contract: each kind that has a number to judge has its own arm.
 use mathlib.Core.Path.{_≡_, sym, _∙_}
 use mathlib.Core.Bool.{true, false, or-false}
+use borrow.Author.Needs.{needs}
 use borrow.Author.Tests.{ne-eqb}
 use Rattle.calls.specs.Refusals.{badNumber, outside}
-use borrow.Author.Needs.{needs}
 use Rattle.calls.proofs.refusals.bad_number.Statement.{statement}
 use Rattle.calls.proofs.refusals.bad_number.Tie as tie
 

@@ -4,10 +4,10 @@ use mathlib.Core.Path.{_≡_}
 use mathlib.Core.Bool.{true}
 use mathlib.Core.Logic.{⊎-elim}
 use native.Mathlib.Omega.{arith}
+use borrow.Author.Needs.{needs}
 use borrow.Author.Tests.{lt-ltb}
 use Rattle.calls.specs.Refusals.{inRegion}
 use Rattle.calls.specs.Named.{blocksOf}
-use borrow.Author.Needs.{needs}
 use Rattle.calls.proofs.refusals.blocks_in_region.Statement.{statement}
 use Rattle.calls.proofs.refusals.blocks_in_region.Tie as tie
 

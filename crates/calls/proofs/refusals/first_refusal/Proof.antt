@@ -3,11 +3,11 @@ use mathlib.Core.Path.{_≡_, sym, _∙_}
 use mathlib.Core.Bool.{false, cond, _&&_, and-false}
 use mathlib.Core.Logic.{⊎-elim}
 use lib.Dec.{eqb, ltb}
+use borrow.Author.Needs.{needs}
 use borrow.Author.Tests.{lt-ltb, le-ltb, ne-eqb}
 use Rattle.calls.specs.Kinds.{fromInterrupt, fromThread}
 use Rattle.calls.specs.Refusals.{unknown, badNumber}
 use Rattle.calls.specs.Named.{firstNumber}
-use borrow.Author.Needs.{needs}
 use Rattle.calls.proofs.refusals.first_refusal.Statement.{statement}
 use Rattle.calls.proofs.refusals.first_refusal.Tie as tie
 

@@ -3,11 +3,11 @@ use Prim.Native.Nat.{_+_, _<_}
 use mathlib.Core.Path.{_≡_, sym, _∙_}
 use native.Mathlib.Omega.{arith}
 use lib.ListN.{length, length-map}
+use borrow.Author.Needs.{needs}
 use borrow.Author.Tests.{ne-eqb}
 use Rattle.kernel.specs.declared.records.Kernel.{Kernel}
 use Rattle.seek.proofs.Firsts.{first-empty}
 use Rattle.calls.specs.Refusals.{hasWaiters}
-use borrow.Author.Needs.{needs}
 use Rattle.calls.proofs.refusals.has_waiters.Statement.{statement}
 use Rattle.calls.proofs.refusals.has_waiters.Tie as tie
 

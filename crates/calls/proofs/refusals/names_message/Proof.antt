@@ -15,6 +15,7 @@ returns c =
     let a = c .before .before .args .c in
     run (λ m. true ≡ isOneOf (asKind a m) (25 ∷ 26 ∷ [])) 2 25 (refl, (refl, tt)) (a .kind) (c .before .if1 .left) (c .if2 .taken)
 
+-- any other kind
 none : (c : Call) → (25 ≤ c .kind → c .kind < 27 → ⊥) → false ≡ isOneOf c (25 ∷ 26 ∷ [])
 none c h =
     let o = off (c .kind) 25 27 h in

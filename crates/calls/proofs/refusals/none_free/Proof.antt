@@ -1,9 +1,9 @@
 -- `calls::refusals::none_free` meets its contract: each kind that takes something has its own arm.
 use mathlib.Core.Path.{sym}
 use mathlib.Core.Bool.{or-false}
+use borrow.Author.Needs.{needs}
 use borrow.Author.Tests.{ne-eqb}
 use Rattle.calls.specs.Refusals.{noneFree}
-use borrow.Author.Needs.{needs}
 use Rattle.calls.proofs.refusals.none_free.Statement.{statement}
 use Rattle.calls.proofs.refusals.none_free.Tie as tie
 

@@ -1,8 +1,8 @@
 -- `calls::refusals::number_of` meets its contract: the three parts are the table's, in its order.
 use mathlib.Core.Path.{_≡_, sym, _∙_}
+use borrow.Author.Needs.{needs}
 use Rattle.calls.specs.Named.{namedBy, secondNumber, thirdNumber}
 use Rattle.calls.proofs.Applies.{by-first, by-second, by-third}
-use borrow.Author.Needs.{needs}
 use Rattle.calls.proofs.refusals.number_of.Statement.{statement}
 use Rattle.calls.proofs.refusals.number_of.Tie as tie
 

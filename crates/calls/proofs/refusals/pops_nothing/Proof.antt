@@ -21,6 +21,7 @@ returns-2 c =
     let a = c .before .before .before .before .args in
     run (λ m. eqb (a .critical) 0 ≡ popsNothingAt (a .unscheduled) (a .critical) (asKind (a .c) m)) 2 12 (refl, (refl, tt)) (a .c .kind) (c .before .if3 .left) (c .if4 .taken)
 
+-- a kind that pops no level
 none : (u r : ℕ) (c : Call) → (9 ≤ c .kind → c .kind < 11 → ⊥) → (12 ≤ c .kind → c .kind < 14 → ⊥) → false ≡ popsNothingAt u r c
 none u r c h g =
     let o = off (c .kind) 9 11 h in

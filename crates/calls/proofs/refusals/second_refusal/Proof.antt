@@ -2,9 +2,9 @@
 use mathlib.Core.Path.{_≡_, sym, _∙_}
 use mathlib.Core.Bool.{false, not, cond}
 use lib.Dec.{eqb}
+use borrow.Author.Needs.{needs}
 use borrow.Author.Tests.{eq-eqb, ne-eqb}
 use Rattle.calls.specs.Named.{badIdOf, secondNumber}
-use borrow.Author.Needs.{needs}
 use Rattle.calls.proofs.refusals.second_refusal.Statement.{statement}
 use Rattle.calls.proofs.refusals.second_refusal.Tie as tie
 

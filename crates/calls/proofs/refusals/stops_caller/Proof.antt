@@ -31,6 +31,7 @@ returns-5 c =
     let a = c .before .before .before .args in
     run (λ m. true ≡ stopsCallerOf (a .n) (a .runner) (a .next) (asKind (a .c) m)) 2 6 (refl, (refl, tt)) (a .c .kind) (c .before .if1 .left) (c .if2 .taken)
 
+-- a kind that never stops its caller
 none : (c : tie.At-match-rest) → (6 ≤ c .before .args .c .kind → c .before .args .c .kind < 8 → ⊥)
     → false ≡ stopsCallerOf (c .before .args .n) (c .before .args .runner) (c .before .args .next) (c .before .args .c)
 unfolding stopsCallerOf

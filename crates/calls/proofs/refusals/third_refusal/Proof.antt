@@ -3,10 +3,10 @@ use mathlib.Core.Path.{_≡_, sym, _∙_}
 use mathlib.Core.Bool.{false, cond, _&&_, and-false}
 use mathlib.Core.Logic.{⊎-elim}
 use lib.Dec.{eqb}
+use borrow.Author.Needs.{needs}
 use borrow.Author.Tests.{ne-eqb}
 use Rattle.calls.specs.Refusals.{is, hasWaiters, popsNothing, noneFree}
 use Rattle.calls.specs.Named.{blocksOf, thirdNumber}
-use borrow.Author.Needs.{needs}
 use Rattle.calls.proofs.refusals.third_refusal.Statement.{statement}
 use Rattle.calls.proofs.refusals.third_refusal.Tie as tie
 

@@ -1,10 +1,10 @@
 -- `calls::refusals::unknown` meets its contract: a known kind whose unused fields are 0, or else unknown.
 use mathlib.Core.Path.{_≡_, sym, _∙_}
 use mathlib.Core.Bool.{true, false}
+use borrow.Author.Needs.{needs}
 use borrow.Author.Tests.{not-true, not-false}
 use Rattle.calls.specs.Kinds.{isKnown}
 use Rattle.calls.specs.Refusals.{unknown}
-use borrow.Author.Needs.{needs}
 use Rattle.calls.proofs.refusals.unknown.Statement.{statement}
 use Rattle.calls.proofs.refusals.unknown.Tie as tie
 

@@ -26,7 +26,7 @@ unfolding called
 returns-2 c =
     let k : Kernel = c .before .before .before .before .args .k in
     let holds : keepsRules k ≡ true =
-        sym (c .before .before .before .keeps-rules .ensures) ∙ not-false (c .before .before .before .keeps-rules .result) (c .before .before .if1 .left) in
+    sym (c .before .before .before .keeps-rules .ensures) ∙ not-false (c .before .before .before .keeps-rules .result) (c .before .before .if1 .left) in
     rw holds (c .step .ensures ∙ ap (step k) (c .before .call-of .ensures))
 
 pub called-spec : {M : Type 1} → statement M

@@ -38,7 +38,7 @@ returns-2 c =
     let x : Call = c .before .before .before .before .before .args .c in
     let n : ℕ = c .before .before .before .before .number-of .result in
     let none : eqb (numberOf k x) 0 ≡ true =
-        ap (λ (m : ℕ). eqb m 0) (sym (c .before .before .before .before .number-of .ensures)) ∙ eq-eqb n 0 (c .before .before .before .if1 .left) in
+    ap (λ (m : ℕ). eqb m 0) (sym (c .before .before .before .before .number-of .ensures)) ∙ eq-eqb n 0 (c .before .before .before .if1 .left) in
     let next : c .scheduled .result ≡ scheduled (effect k x) = c .scheduled .ensures ∙ ap scheduled (c .before .effect .ensures) in
     rw (none, next, c .before .before .value-of .ensures)
 

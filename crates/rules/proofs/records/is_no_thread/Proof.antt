@@ -1,21 +1,26 @@
 -- `rules::records::is_no_thread` meets its contract: the first field that is not 0 answers, and the last where none did.
 use mathlib.Core.Path.{_≡_}
 use mathlib.Core.Bool.{true, and-true}
+use mathlib.Core.List.{[], _∷_}
 use native.Mathlib.Omega.{arith}
+use lib.Dec.{eqb}
 use borrow.Author.Tests.{eq-eqb, ne-eqb}
 use borrow.Author.Needs.{needs}
 use Rattle.kernel.specs.Conditions.{readyFor}
-use Rattle.rules.specs.Tests.{noWake, isNoThread}
+use Rattle.rules.specs.Tests.{noWake, isNoThread, allOf}
 use Rattle.rules.proofs.Loops.{refused, passed}
 use Rattle.rules.proofs.records.is_no_thread.Statement.{statement}
 use Rattle.rules.proofs.records.is_no_thread.Tie as tie
 
--- past the calls
 ready : (c : tie.Else3) → readyFor (c .before .before .before .before .before .before .args .r .condition) ≡ true
 ready c = passed (c .before .ready-for .ensures) (c .if3 .left)
 
-unwoken : (c : tie.Else5) → noWake (c .before .before .before .before .before .before .before .before .before .before .args .r .wake) ≡ true
-unwoken c = passed (c .before .no-wake .ensures) (c .if5 .left)
+-- past the ticks left, the rest decides
+unticked : (c : tie.Else4) → let r = c .before .before .before .before .before .before .before .before .args .r in isNoThread r ≡ allOf (noWake (r .wake) ∷ eqb (r .reply) 0 ∷ [])
+unfolding isNoThread
+unticked c =
+    let r = c .before .before .before .before .before .before .before .before .args .r in
+    rw (eq-eqb (r .priority) 0 (omega arith), eq-eqb (r .first) 0 (omega arith), ready (c .before .before), eq-eqb (r .ticks) 0 (omega arith))
 
 returns : tie.Need-returns
 unfolding isNoThread
@@ -46,16 +51,10 @@ no-wake-requires : tie.Need-no-wake-requires
 no-wake-requires c κs = search needs
 
 returns-5 : tie.Need-returns-5
-unfolding isNoThread
-returns-5 c =
-    let r = c .before .before .before .before .before .before .before .before .before .before .args .r in
-    rw (eq-eqb (r .priority) 0 (omega arith), eq-eqb (r .first) 0 (omega arith), ready (c .before .before .before .before), eq-eqb (r .ticks) 0 (omega arith), refused (c .before .no-wake .ensures) (c .if5 .taken))
+returns-5 c = rw (unticked (c .before .before), refused (c .before .no-wake .ensures) (c .if5 .taken))
 
 returns-6 : tie.Need-returns-6
-unfolding isNoThread
-returns-6 c =
-    let r = c .before .before .before .before .before .before .before .before .before .before .before .args .r in
-    rw (eq-eqb (r .priority) 0 (omega arith), eq-eqb (r .first) 0 (omega arith), ready (c .before .before .before .before .before), eq-eqb (r .ticks) 0 (omega arith), unwoken (c .before), and-true)
+returns-6 c = rw (unticked (c .before .before .before), passed (c .before .before .no-wake .ensures) (c .before .if5 .left), and-true)
 
 pub is-no-thread-spec : {M : Type 1} → statement M
 is-no-thread-spec =

@@ -16,11 +16,15 @@ returns-2 c = rw (lt-ltb 0 (c .before .before .before .before .args .r .maximum)
 
 returns-3 : tie.Need-returns-3
 unfolding liveSemaphoreKept
-returns-3 c = rw (lt-ltb 0 (c .before .before .before .before .before .before .before .args .r .maximum) (omega arith), le-leb _ _ (c .before .before .before .if2 .left), eq-eqb _ _ (c .before .if3 .taken), and-true)
+returns-3 c =
+    let r = c .before .before .before .before .before .before .before .args .r in
+    rw (lt-ltb 0 (r .maximum) (omega arith), le-leb (r .count) (r .maximum) (omega arith), eq-eqb _ _ (c .before .if3 .taken), and-true)
 
 returns-4 : tie.Need-returns-4
 unfolding liveSemaphoreKept
-returns-4 c = rw (lt-ltb 0 (c .before .before .before .before .before .before .before .args .r .maximum) (omega arith), le-leb _ _ (c .before .before .before .if2 .left), ne-eqb _ _ (c .before .if3 .left), and-true)
+returns-4 c =
+    let r = c .before .before .before .before .before .before .before .args .r in
+    rw (lt-ltb 0 (r .maximum) (omega arith), le-leb (r .count) (r .maximum) (omega arith), ne-eqb _ _ (c .before .if3 .left), and-true)
 
 pub live-semaphore-kept-spec : {M : Type 1} → statement M
 live-semaphore-kept-spec = tie.close (tie.spec returns returns-2 returns-3 returns-4)

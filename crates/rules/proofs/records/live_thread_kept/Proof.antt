@@ -1,14 +1,25 @@
 -- `rules::records::live_thread_kept` meets its contract: the first test that fails answers. Where the arms of the reply meet, it is below 64 or 255.
 use mathlib.Core.Path.{_≡_}
 use mathlib.Core.Bool.{true, _||_, and-true, or-true}
+use mathlib.Core.List.{[], _∷_}
 use mathlib.Core.Logic.{⊎-elim}
 use native.Mathlib.Omega.{arith}
 use lib.Dec.{eqb, ltb}
 use borrow.Author.Tests.{eq-eqb, ne-eqb, lt-ltb, le-ltb, le-leb, lt-leb}
 use borrow.Author.Needs.{needs}
-use Rattle.rules.specs.Tests.{liveThreadKept}
+use Rattle.rules.specs.Tests.{liveThreadKept, conditionKept, allOf}
 use Rattle.rules.proofs.records.live_thread_kept.Statement.{statement}
 use Rattle.rules.proofs.records.live_thread_kept.Tie as tie
+
+-- past the priorities, the rest decides
+sized : (c : tie.Else4)
+    → let a = c .before .before .before .before .before .before .before .before .args in let r = a .r in
+    liveThreadKept (a .semaphores) (a .events) (a .bits) r
+    ≡ allOf ((ltb (r .reply) 64 || eqb (r .reply) 255) ∷ conditionKept (a .semaphores) (a .events) (a .bits) (r .ticks) (r .condition) ∷ [])
+unfolding liveThreadKept
+sized c =
+    let r = c .before .before .before .before .before .before .before .before .args .r in
+    rw (lt-ltb 0 (r .priority) (omega arith), le-leb (r .priority) 30 (omega arith), lt-ltb 0 (r .first) (omega arith), le-leb (r .first) 30 (omega arith))
 
 -- where the arms meet
 meets : (c : tie.Joined5)
@@ -38,19 +49,13 @@ returns-4 c =
     rw (lt-ltb 0 (r .priority) (omega arith), le-leb (r .priority) 30 (omega arith), lt-ltb 0 (r .first) (omega arith), lt-leb _ _ (c .if4 .taken))
 
 returns-5 : tie.Need-returns-5
-unfolding liveThreadKept
-returns-5 c =
-    let r = c .before .before .before .before .before .before .before .before .before .before .before .before .args .r in
-    rw (lt-ltb 0 (r .priority) (omega arith), le-leb (r .priority) 30 (omega arith), lt-ltb 0 (r .first) (omega arith), le-leb (r .first) 30 (omega arith), le-ltb (r .reply) 64 (omega arith), ne-eqb _ _ (c .if6 .taken))
+returns-5 c = rw (sized (c .before .before .before .before), le-ltb _ _ (c .before .before .if5 .taken), ne-eqb _ _ (c .if6 .taken))
 
 condition-kept-requires : tie.Need-condition-kept-requires
 condition-kept-requires c κs = search needs
 
 returns-6 : tie.Need-returns-6
-unfolding liveThreadKept
-returns-6 c =
-    let r = c .before .before .before .before .before .before .before .before .before .before .before .args .r in
-    rw (lt-ltb 0 (r .priority) (omega arith), le-leb (r .priority) 30 (omega arith), lt-ltb 0 (r .first) (omega arith), le-leb (r .first) 30 (omega arith), meets (c .before), c .condition-kept .ensures, and-true)
+returns-6 c = rw (sized (c .before .before .before), meets (c .before), c .condition-kept .ensures, and-true)
 
 pub live-thread-kept-spec : {M : Type 1} → statement M
 live-thread-kept-spec =

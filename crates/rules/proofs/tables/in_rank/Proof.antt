@@ -62,7 +62,8 @@ unfolding inRank
 returns c =
     let a = c .before .before .before .before .before .before .args in
     let l = c .before .before .before .loop in
-    climb-stops (key (a .t1)) (a .q) _ (c .before .before .before .before .size .ensures) (l .low) (l .i) (l .inv) _ (meets (c .before)) (omega arith) (omega arith)
+    climb-stops (key (a .t1)) (a .q) _ (c .before .before .before .before .size .ensures)
+    (l .low) (l .i) (l .inv) _ (meets (c .before)) (omega arith) (omega arith)
 
 add-i : tie.Need-add-i Inv-loop μ-loop
 add-i c = search needs
@@ -74,7 +75,8 @@ loop-again : tie.Need-loop-again Inv-loop μ-loop
 loop-again c =
     let a = c .before .before .before .before .before .before .args in
     let l = c .before .before .before .loop in
-    climb-goes (key (a .t1)) (a .q) _ (c .before .before .before .before .size .ensures) (l .low) (l .i) (l .inv) _ (meets (c .before)) (omega arith) (omega arith)
+    climb-goes (key (a .t1)) (a .q) _ (c .before .before .before .before .size .ensures)
+    (l .low) (l .i) (l .inv) _ (meets (c .before)) (omega arith) (omega arith)
 
 returns-2 : tie.Need-returns-2 Inv-loop μ-loop
 unfolding inRank

@@ -54,7 +54,8 @@ returns-2 : tie.Need-returns-2 Inv-loop μ-loop
 returns-2 c =
     let a = c .before .before .before .before .before .before .before .before .before .args in
     let l = c .before .before .before .before .before .before .loop in
-    stand-stops hasHome (a .t1) (items (a .q)) noThread (l .t) (l .inv) (omega arith) (c .before .before .before .count .ensures) (c .before .times .ensures) (c .before .before .has-home .ensures) (c .if2 .taken)
+    stand-stops hasHome (a .t1) (items (a .q)) noThread (l .t) (l .inv) (omega arith)
+    (c .before .before .before .count .ensures) (c .before .times .ensures) (c .before .before .has-home .ensures) (λ e. omega arith)
 
 add-t : tie.Need-add-t Inv-loop μ-loop
 add-t c = search needs
@@ -66,7 +67,8 @@ loop-again : tie.Need-loop-again Inv-loop μ-loop
 loop-again c =
     let a = c .before .before .before .before .before .before .before .before .before .args in
     let l = c .before .before .before .before .before .before .loop in
-    stand-goes hasHome (a .t1) (items (a .q)) noThread (l .t) (l .inv) (omega arith) (c .before .before .before .count .ensures) (c .before .times .ensures) (c .before .before .has-home .ensures) (c .if2 .left)
+    stand-goes hasHome (a .t1) (items (a .q)) noThread (l .t) (l .inv) (omega arith)
+    (c .before .before .before .count .ensures) (c .before .times .ensures) (c .before .before .has-home .ensures) (omega arith)
 
 returns-3 : tie.Need-returns-3 Inv-loop μ-loop
 returns-3 c =

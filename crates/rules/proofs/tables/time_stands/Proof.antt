@@ -51,7 +51,8 @@ returns-2 : tie.Need-returns-2 Inv-loop μ-loop
 returns-2 c =
     let a = c .before .before .before .before .before .before .before .before .before .args in
     let l = c .before .before .before .before .before .before .loop in
-    stand-stops isTicking (a .t1) (items (a .q)) noThread (l .t) (l .inv) (omega arith) (c .before .before .before .count .ensures) (c .before .times .ensures) refl (c .if2 .taken)
+    stand-stops isTicking (a .t1) (items (a .q)) noThread (l .t) (l .inv) (omega arith)
+    (c .before .before .before .count .ensures) (c .before .times .ensures) refl (λ e. omega arith)
 
 add-t : tie.Need-add-t Inv-loop μ-loop
 add-t c = search needs
@@ -63,7 +64,8 @@ loop-again : tie.Need-loop-again Inv-loop μ-loop
 loop-again c =
     let a = c .before .before .before .before .before .before .before .before .before .args in
     let l = c .before .before .before .before .before .before .loop in
-    stand-goes isTicking (a .t1) (items (a .q)) noThread (l .t) (l .inv) (omega arith) (c .before .before .before .count .ensures) (c .before .times .ensures) refl (c .if2 .left)
+    stand-goes isTicking (a .t1) (items (a .q)) noThread (l .t) (l .inv) (omega arith)
+    (c .before .before .before .count .ensures) (c .before .times .ensures) refl (omega arith)
 
 returns-3 : tie.Need-returns-3 Inv-loop μ-loop
 returns-3 c =

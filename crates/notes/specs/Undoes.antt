@@ -1,0 +1,52 @@
+-- The undo as a test: put back, test the rules, run the call again, and compare the state and the note.
+use Prim.Native.Nat.{ℕ}
+use mathlib.Core.Bool.{Bool, true, false, _&&_}
+use mathlib.Core.List.{List, [], _∷_}
+use lib.Dec.{eqb, ltb}
+use lib.ListN.{take}
+use Rattle.kernel.specs.declared.records.Kernel.{Kernel}
+use Rattle.rules.specs.Tests.{allOf, keepsRules}
+use Rattle.calls.specs.Calls.{callOf}
+use Rattle.calls.specs.Refusals.{numberOf}
+use Rattle.threads.specs.Parts.{scheduled}
+use Rattle.effects.specs.Effects.{effect}
+use Rattle.notes.specs.Touched.{sameRow}
+use Rattle.notes.specs.Notes.{noteOf}
+use Rattle.notes.specs.Back.{stateBefore}
+use Rattle.notes.specs.Frames.{Decoded, nothing, sections, framesOf, sectionsIn}
+use Rattle.notes.specs.Undo.{hasLast, lastNote}
+use Rattle.notes.specs.Same.{sameKernel}
+
+-- "the call record" stands first
+unfoldable pub recordIn : List ℕ → List ℕ
+recordIn note = take 16 note
+
+-- the state before, of the state after and a note, whatever they hold
+unfoldable pub backFrom : Kernel → List ℕ → Kernel
+backFrom k′ note = stateBefore (callOf (recordIn note)) k′ (sectionsIn (framesOf note))
+
+abbrev pub isDecoded : Decoded → Bool
+isDecoded nothing = false
+isDecoded (sections s) = true
+
+-- the levels are bytes: one more than 255 isn't
+unfoldable pub levelsFit : Kernel → Bool
+levelsFit k = ltb (k .unscheduled) 256 && ltb (k .critical) 256
+
+-- the state k, with the call in these bytes, yields k′ and the note
+unfoldable pub yieldsAgain : Kernel → List ℕ → Kernel → List ℕ → Bool
+yieldsAgain k bytes k′ note =
+    allOf
+    (levelsFit k
+    ∷ keepsRules k
+    ∷ eqb (numberOf k (callOf bytes)) 0
+    ∷ sameKernel (scheduled (effect k (callOf bytes))) k′
+    ∷ sameRow (noteOf k bytes k′) note
+    ∷ [])
+
+unfoldable pub undoesNote : Kernel → List ℕ → Bool
+undoesNote k′ note = isDecoded (framesOf note) && yieldsAgain (backFrom k′ note) (recordIn note) k′ note
+
+-- the last note of the log is undone
+unfoldable pub undoes : Kernel → List ℕ → ℕ → Bool
+undoes k′ log used = hasLast log used && undoesNote k′ (lastNote log used)
