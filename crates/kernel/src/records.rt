@@ -1,6 +1,6 @@
 // Document 01's records and the state that holds them.
 ghost use mathlib.Core.Path.{_≡_};
-ghost use Rattle.kernel.specs.Records.{fresh};
+ghost use Rattle.kernel.specs.Records.{noThread, noSemaphore, noMessage, fresh};
 use queue::Queue;
 
 // What a thread does: it is ready, asleep, or waits for a semaphore, an event, or a message on the masked channels.
@@ -77,11 +77,11 @@ pub struct Kernel {
     pub runner: u8,
 }
 
-// No thread, semaphore or message, and each event in mode any with mask and values 0.
-pub fn fresh() -> Kernel
-    ensures { λ r. ⌜ r ≡ fresh ⌝ }
+// The records that aren't live: all fields are 0.
+fn no_thread() -> Thread
+    ensures { λ r. ⌜ r ≡ noThread ⌝ }
 {
-    let thread = Thread {
+    Thread {
         live: false,
         priority: 0,
         first: 0,
@@ -89,20 +89,25 @@ pub fn fresh() -> Kernel
         ticks: 0,
         wake: Wake::None,
         reply: 0,
-    };
-    let semaphore = Semaphore {
+    }
+}
+
+fn no_semaphore() -> Semaphore
+    ensures { λ r. ⌜ r ≡ noSemaphore ⌝ }
+{
+    Semaphore {
         live: false,
         count: 0,
         maximum: 0,
         ticks: 0,
         period: 0,
-    };
-    let event = Event {
-        any: true,
-        mask: 0,
-        values: 0,
-    };
-    let message = Message {
+    }
+}
+
+fn no_message() -> Message
+    ensures { λ r. ⌜ r ≡ noMessage ⌝ }
+{
+    Message {
         live: false,
         owner: 0,
         sender: 0,
@@ -110,13 +115,24 @@ pub fn fresh() -> Kernel
         size: 0,
         address: 0,
         channel: 0,
+    }
+}
+
+// No thread, semaphore or message, and each event in mode any with mask and values 0.
+pub fn fresh() -> Kernel
+    ensures { λ r. ⌜ r ≡ fresh ⌝ }
+{
+    let event = Event {
+        any: true,
+        mask: 0,
+        values: 0,
     };
     let none = queue::empty();
     Kernel {
-        threads: [thread; 32],
-        semaphores: [semaphore; 16],
+        threads: [no_thread(); 32],
+        semaphores: [no_semaphore(); 16],
         events: [event; 8],
-        messages: [message; 64],
+        messages: [no_message(); 64],
         places: none,
         time: none,
         posted: none,

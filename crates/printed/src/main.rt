@@ -1,12 +1,10 @@
 // Document 01's printed replay: records from standard input to its end, a line each, then the uptime.
 ghost use Prim.Native.Nat.{_≤_};
 ghost use lib.ListN.{length};
-
-mod lines;
-
 use calls::call;
 use kernel::records::Kernel;
 use replay::step;
+use replay::step::Answer;
 
 // Where a run stands: its state, the records seen so far, and the end of the text written for the last ones.
 struct Run {
@@ -14,6 +12,49 @@ struct Run {
     serial: u64,
     end: usize,
 }
+
+// ---- lines of decimal numbers in a lent buffer; a full buffer drops what does not fit
+
+// One byte at `at`; the answer is the next place, at most the end.
+fn put_byte(out: &mut [u8], at: usize, b: u8) -> usize
+    ensures { λ r. ⌜ r ≤ length (now (out .entry)) ⌝ }
+{
+    if at < out.len() {
+        out[at] = b;
+        return at + 1;
+    }
+    out.len()
+}
+
+// The decimal digits of n, and then the byte that ends them.
+fn put_number(out: &mut [u8], at: usize, n: u64, end: u8) -> usize
+    ensures { λ r. ⌜ r ≤ length (now (out .entry)) ⌝ }
+{
+    let mut digits = [0u8; 20];
+    let count = io::decimal(n, &mut digits);
+    let mut p = at;
+    let mut i: usize = 0;
+    while i < 20 {
+        if count <= i {
+            return put_byte(out, p, end);
+        }
+        p = put_byte(out, p, digits[i]);
+        i += 1;
+    }
+    put_byte(out, p, end)
+}
+
+// The line of an answer: serial, number, value, runner.
+fn put_line(out: &mut [u8], at: usize, serial: u64, a: Answer) -> usize
+    ensures { λ r. ⌜ r ≤ length (now (out .entry)) ⌝ }
+{
+    let p = put_number(out, at, serial, b' ');
+    let q = put_number(out, p, a.number as u64, b' ');
+    let r = put_number(out, q, a.value as u64, b' ');
+    put_number(out, r, a.runner as u64, b'\n')
+}
+
+// ---- the replay
 
 // The sixteen bytes from `at` on; past the end, zeros.
 fn record_at(s: &[u8], at: usize) -> [u8; 16] {
@@ -47,7 +88,7 @@ fn replayed(k: Kernel, serial: u64, s: &[u8], out: &mut [u8]) -> Run
         let c = call::call_of(record_at(s, at));
         let next = step::step(run.kernel, c);
         let n = std::num::wrapping_add_u64(run.serial, 1);
-        let end = lines::put_line(out, run.end, n, next.answer);
+        let end = put_line(out, run.end, n, next.answer);
         let state = next.kernel;
         run = Run {
             kernel: state,

@@ -1,4 +1,3 @@
--- `kernel::records::fresh` meets its contract: the state is the literal that the definition gives.
 use borrow.Author.Needs.{needs}
 use Rattle.kernel.specs.Records.{fresh}
 use Rattle.kernel.proofs.records.fresh.Statement.{statement}
@@ -7,9 +6,25 @@ use Rattle.kernel.proofs.records.fresh.Tie as tie
 empty-requires : tie.Need-empty-requires
 empty-requires c κs = search needs
 
+no-thread-requires : tie.Need-no-thread-requires
+no-thread-requires c κs = search needs
+
+no-semaphore-requires : tie.Need-no-semaphore-requires
+no-semaphore-requires c κs = search needs
+
+no-message-requires : tie.Need-no-message-requires
+no-message-requires c κs = search needs
+
 returns : tie.Need-returns
 unfolding fresh
-returns c = rw (c .empty .ensures)
+returns c =
+    rw (
+      c .no-message .ensures,
+      c .before .no-semaphore .ensures,
+      c .before .before .no-thread .ensures,
+      c .before .before .before .empty .ensures,
+    )
 
 pub fresh-spec : {M : Type 1} → statement M
-fresh-spec = tie.close (tie.spec empty-requires returns)
+fresh-spec =
+    tie.close (tie.spec empty-requires no-thread-requires no-semaphore-requires no-message-requires returns)

@@ -2,8 +2,8 @@ use Prim.Native.Nat.{_≤_, _-_}
 use mathlib.Core.Path.{_≡_}
 use lib.ListN.{length}
 use borrow.Author.Needs.{needs}
-use Rattle.printed.proofs.lines.put_number.Statement.{statement}
-use Rattle.printed.proofs.lines.put_number.Tie as tie
+use Rattle.printed.proofs.put_number.Statement.{statement}
+use Rattle.printed.proofs.put_number.Tie as tie
 
 abbrev Inv-loop : tie.InvT-loop
 Inv-loop out₀ at n end digits count p₀ i₀ out p i = (i ≤ 20) × (length out ≡ length out₀)
