@@ -4,3 +4,4 @@ pub mod Works
 pub mod LawsOfSemaphores
 pub mod LawsOfEvents
 pub mod LawsOfMessages
+pub mod LawsOfMaking

@@ -7,3 +7,4 @@ pub mod LawsOfWaking
 pub mod LawsOfBlocking
 pub mod LawsOfThreads
 pub mod LawsOfDestroying
+pub mod LawsOfRegions
