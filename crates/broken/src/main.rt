@@ -118,20 +118,6 @@ fn busy() -> Kernel {
 
 // ---- states that look odd and keep every rule
 
-fn held_runner() -> Kernel {
-    let mut k = busy();
-    k.unscheduled = 1;
-    k.runner = 1;
-    k
-}
-
-fn critical_runner() -> Kernel {
-    let mut k = busy();
-    k.critical = 255;
-    k.runner = 1;
-    k
-}
-
 fn old_reason() -> Kernel {
     let mut k = busy();
     let t = k.threads[3];
@@ -203,11 +189,11 @@ fn show_all() {
     show(b"busy, a delay above the period", busy());
     show(
         b"the runner isn't first in an unscheduled region",
-        held_runner(),
+        runs(1, 0, 1),
     );
     show(
         b"the runner isn't first in a critical region",
-        critical_runner(),
+        runs(0, 255, 1),
     );
     show(
         b"a waiting thread with an old reason and reply",
@@ -247,15 +233,12 @@ fn garbled_channels(length: u8) -> Kernel {
     k
 }
 
-fn on_dead_semaphore() -> Kernel {
+// Thread t in this condition.
+fn waiting(t: usize, priority: u8, condition: Condition, ticks: u32) -> Kernel {
     let mut k = busy();
-    k.threads[3] = thread(7, Condition::ForSemaphore(5), 0);
-    k
-}
-
-fn on_event_9() -> Kernel {
-    let mut k = busy();
-    k.threads[4] = thread(4, Condition::ForEvent(9), 9);
+    if t < 32 {
+        k.threads[t] = thread(priority, condition, ticks);
+    }
     k
 }
 
@@ -279,9 +262,12 @@ fn show_places() {
     );
     show(
         b"liveSemaphores: a waiter on a dead semaphore",
-        on_dead_semaphore(),
+        waiting(3, 7, Condition::ForSemaphore(5), 0),
     );
-    show(b"liveEvents: a waiter on event 9", on_event_9());
+    show(
+        b"liveEvents: a waiter on event 9",
+        waiting(4, 4, Condition::ForEvent(9), 9),
+    );
     show(
         b"noOtherPlaces: a sleeper in the table",
         with_places(k, &[0, 1, 2, 3, 4, 5]),
@@ -316,12 +302,6 @@ fn still_asleep() -> Kernel {
     with_time(k, &[5, 2, 4])
 }
 
-fn ready_with_ticks() -> Kernel {
-    let mut k = busy();
-    k.threads[1].ticks = 3;
-    k
-}
-
 fn show_time() {
     let k = busy();
     show(
@@ -338,31 +318,33 @@ fn show_time() {
     );
     show(b"timeOrder: the later first", with_time(k, &[4, 2, 5]));
     show(b"ticksLeft: a sleeper with none", still_asleep());
-    show(b"otherTicks: a ready thread with ticks", ready_with_ticks());
+    show(
+        b"otherTicks: a ready thread with ticks",
+        waiting(1, 5, Condition::Ready, 3),
+    );
 }
 
-fn awaited() -> Kernel {
+// Message m with this owner, sender and channel.
+fn messaged(m: usize, owner: u8, sender: u8, channel: u8) -> Kernel {
     let mut k = busy();
-    k.messages[1].channel = 2;
-    k
-}
-
-fn owner_9() -> Kernel {
-    let mut k = busy();
-    k.messages[0].owner = 9;
-    k
-}
-
-fn channel_16() -> Kernel {
-    let mut k = busy();
-    k.messages[1].channel = 16;
+    if m < 64 {
+        k.messages[m].owner = owner;
+        k.messages[m].sender = sender;
+        k.messages[m].channel = channel;
+    }
     k
 }
 
 fn show_channels() {
     let k = busy();
-    show(b"noneAwaited: a message on a masked channel", awaited());
-    show(b"liveOwners: an owner that isn't live", owner_9());
+    show(
+        b"noneAwaited: a message on a masked channel",
+        messaged(1, 6, 0, 2),
+    );
+    show(
+        b"liveOwners: an owner that isn't live",
+        messaged(0, 9, 0, 0),
+    );
     show(
         b"channelPlaces: a queued message without a place",
         with_posted(k, &[2, 1]),
@@ -375,7 +357,7 @@ fn show_channels() {
         b"noOtherPosts: a held message in a channel",
         with_posted(k, &[0, 2, 3, 1]),
     );
-    show(b"messageSizes: channel 16", channel_16());
+    show(b"messageSizes: channel 16", messaged(1, 6, 0, 16));
     show(
         b"storeOrder: a later owner's channel first",
         with_posted(k, &[1, 2, 3]),
@@ -388,12 +370,6 @@ fn priority(n: u8, first: u8) -> Kernel {
     let mut k = busy();
     k.threads[1].priority = n;
     k.threads[1].first = first;
-    k
-}
-
-fn mask(n: u16) -> Kernel {
-    let mut k = busy();
-    k.threads[6] = thread(6, Condition::ForMessage(n), 0);
     k
 }
 
@@ -413,8 +389,14 @@ fn show_threads() {
     show(b"prioritySizes: priority 31", priority(31, 5));
     show(b"prioritySizes: first priority 0", priority(5, 0));
     show(b"prioritySizes: first priority 31", priority(5, 31));
-    show(b"maskSizes: mask 0", mask(0));
-    show(b"maskSizes: mask 32768", mask(32768));
+    show(
+        b"maskSizes: mask 0",
+        waiting(6, 6, Condition::ForMessage(0), 0),
+    );
+    show(
+        b"maskSizes: mask 32768",
+        waiting(6, 6, Condition::ForMessage(32768), 0),
+    );
     show(b"replySizes: reply 64", reply(64));
     show(b"replySizes: reply 254", reply(254));
     show(b"deadThreads: a reply of 255", dead_thread());
@@ -438,21 +420,15 @@ fn ticking(i: usize, ticks: u32, period: u32) -> Kernel {
     k
 }
 
-fn true_event() -> Kernel {
-    let mut k = busy();
-    k.bits = 1;
-    k
-}
-
-fn sender_32() -> Kernel {
-    let mut k = busy();
-    k.messages[0].sender = 32;
-    k
-}
-
 fn dead_message() -> Kernel {
     let mut k = busy();
     k.messages[40].size = 1;
+    k
+}
+
+fn true_event() -> Kernel {
+    let mut k = busy();
+    k.bits = 1;
     k
 }
 
@@ -467,7 +443,7 @@ fn show_objects() {
         b"trueWithoutWaiters: a TRUE event with a waiter",
         true_event(),
     );
-    show(b"messageSizes: sender 32", sender_32());
+    show(b"messageSizes: sender 32", messaged(0, 0, 32, 0));
     show(b"deadMessages: a size", dead_message());
 }
 
