@@ -140,47 +140,42 @@ fn dangling() -> Kernel {
     k
 }
 
-fn all_threads() -> Kernel {
-    let mut k = kernel::records::fresh();
-    let t = thread(30, Condition::Ready, 0);
+// The ids below n, in order.
+fn ids_below(n: usize) -> Queue {
     let mut q = queue::empty();
     let mut i: usize = 0;
-    while i < 32 {
-        k.threads[i] = t;
+    while i < n {
+        if 64 <= i {
+            return q;
+        }
         q = queue::with_at(q, i, i as u8);
         i += 1;
     }
-    k.places = q;
+    q
+}
+
+fn all_threads() -> Kernel {
+    let mut k = kernel::records::fresh();
+    let all = [thread(30, Condition::Ready, 0); 32];
+    k.threads = all;
+    k.places = ids_below(32);
     k.runner = 0;
+    k
+}
+
+fn all_asleep() -> Kernel {
+    let mut k = kernel::records::fresh();
+    let all = [thread(1, Condition::Asleep, 4294967295); 32];
+    k.threads = all;
+    k.time = ids_below(32);
     k
 }
 
 fn all_messages() -> Kernel {
     let mut k = all_threads();
-    let m = message(31, 15);
-    let mut q = queue::empty();
-    let mut i: usize = 0;
-    while i < 64 {
-        k.messages[i] = m;
-        q = queue::with_at(q, i, i as u8);
-        i += 1;
-    }
-    k.posted = q;
-    k
-}
-
-fn all_asleep() -> Kernel {
-    let mut k = all_threads();
-    let t = thread(1, Condition::Asleep, 4294967295);
-    let mut i: usize = 0;
-    while i < 32 {
-        k.threads[i] = t;
-        i += 1;
-    }
-    let q = k.places;
-    k.time = q;
-    k.places = queue::empty();
-    k.runner = 255;
+    let all = [message(31, 15); 64];
+    k.messages = all;
+    k.posted = ids_below(64);
     k
 }
 

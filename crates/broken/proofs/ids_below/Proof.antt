@@ -1,19 +1,13 @@
-use Prim.Native.Nat.{_≤_, _-_}
+use Prim.Native.Nat.{_-_, _≤_}
 use borrow.Author.Needs.{needs}
-use Rattle.broken.proofs.all_threads.Statement.{statement}
-use Rattle.broken.proofs.all_threads.Tie as tie
+use Rattle.broken.proofs.ids_below.Statement.{statement}
+use Rattle.broken.proofs.ids_below.Tie as tie
 
 abbrev Inv-loop : tie.InvT-loop
-Inv-loop k₀ t q₀ i₀ k q i = i ≤ 32
+Inv-loop n q₀ i₀ q i = i ≤ n
 
 abbrev μ-loop : tie.MeasureT-loop
-μ-loop k₀ t q₀ i₀ k q i = 32 - i
-
-fresh-requires : tie.Need-fresh-requires Inv-loop μ-loop
-fresh-requires c κs = search needs
-
-thread-requires : tie.Need-thread-requires Inv-loop μ-loop
-thread-requires c κs = search needs
+μ-loop n q₀ i₀ q i = n - i
 
 empty-requires : tie.Need-empty-requires Inv-loop μ-loop
 empty-requires c κs = search needs
@@ -21,11 +15,8 @@ empty-requires c κs = search needs
 loop-holds : tie.Need-loop-holds Inv-loop μ-loop
 loop-holds c = search needs
 
-mul-t : tie.Need-mul-t Inv-loop μ-loop
-mul-t c = search needs
-
-element-set-from-t : tie.Need-element-set-from-t Inv-loop μ-loop
-element-set-from-t c = search needs
+returns : tie.Need-returns Inv-loop μ-loop
+returns c = search needs
 
 cast-with-at : tie.Need-cast-with-at Inv-loop μ-loop
 cast-with-at c = search needs
@@ -42,24 +33,21 @@ loop-less c = search needs
 loop-again : tie.Need-loop-again Inv-loop μ-loop
 loop-again c = search needs
 
-returns : tie.Need-returns Inv-loop μ-loop
-returns c = search needs
+returns-2 : tie.Need-returns-2 Inv-loop μ-loop
+returns-2 c = search needs
 
-pub all-threads-spec : {M : Type 1} → statement M
-all-threads-spec =
+pub ids-below-spec : {M : Type 1} → statement M
+ids-below-spec =
     tie.close
     (tie.spec
     Inv-loop
     μ-loop
-    fresh-requires
-    thread-requires
     empty-requires
     loop-holds
-    mul-t
-    element-set-from-t
+    returns
     cast-with-at
     with-at-requires
     add-i
     loop-less
     loop-again
-    returns)
+    returns-2)
