@@ -1,4 +1,16 @@
-// States that break one state rule each and no other, and unusual states that break none: what the rules' test says of them.
+// What the test of the state rules says of the states in `stdin`. Its first line makes the busy state out of the fresh one;
+// each later line is a name, a bar, and how the busy state is changed. A change is a letter and a number:
+//   F        the fresh state again
+//   P T C    the places, the time queue, the channels begin anew with this member; then , for the next member,
+//            - for all that follow up to this one, L for this length and garbage in the last place
+//   t        thread of this id; then l for live, p priority, f first priority, k ticks left, w woken, y reply, its condition
+//            R ready, A asleep, S E M waiting for this semaphore, event, mask, and * for all threads like it
+//   s        semaphore of this id; then l for live, c count, x maximum, k ticks left, d period
+//   e        event of this id; then x for its mask, y for its values
+//   m        message of this id; then l for live, o owner, n sender, z size, h channel, and * for all messages like it
+//   b u v r  the event bits, the unscheduled and the critical level, the runner
+ghost use Prim.Native.Nat.{_≤_};
+ghost use lib.ListN.{length};
 use kernel::records::Condition;
 use kernel::records::Event;
 use kernel::records::Kernel;
@@ -8,201 +20,147 @@ use kernel::records::Thread;
 use kernel::records::Wake;
 use queue::Queue;
 
-// ---- a busy state that keeps every rule, and ways to change one thing of a state
+// What a line changes: a kind of record with its id, or a table.
+struct Choice {
+    kind: u8,
+    id: usize,
+}
 
-// A line of the output: the state's name, and what the test says.
-fn show(name: &[u8], k: Kernel) {
-    io::write_all(1, name);
-    if rules::keeps_rules(k) {
-        io::write_all(1, b" kept\n");
-    } else {
-        io::write_all(1, b" broken\n");
+// ---- numbers
+
+fn byte(n: u32) -> u8 {
+    if n < 256 { n as u8 } else { 255 }
+}
+
+fn half(n: u32) -> u16 {
+    if n < 65536 { n as u16 } else { 65535 }
+}
+
+// The number with one more digit, where it fits.
+fn with_digit(n: u32, digit: u8) -> u32 {
+    let d = digit as u32;
+    if 429496729 < n {
+        return n;
+    }
+    let tens = n * 10;
+    if 4294967295 - d < tens {
+        return n;
+    }
+    tens + d
+}
+
+// ---- a change of one record or table
+
+fn changed_condition(r: Thread, c: u8, n: u32) -> Thread {
+    match c {
+        b'R' => Thread {
+            condition: Condition::Ready,
+            ..r
+        },
+        b'A' => Thread {
+            condition: Condition::Asleep,
+            ..r
+        },
+        b'S' => Thread {
+            condition: Condition::ForSemaphore(byte(n)),
+            ..r
+        },
+        b'E' => Thread {
+            condition: Condition::ForEvent(byte(n)),
+            ..r
+        },
+        b'M' => Thread {
+            condition: Condition::ForMessage(half(n)),
+            ..r
+        },
+        _ => r,
     }
 }
 
-// The queue that holds these, in this order.
-fn queue_of(l: &[u8]) -> Queue {
-    let mut q = queue::empty();
-    let mut i: usize = 0;
-    while i < l.len() {
-        q = queue::with_at(q, i, l[i]);
-        i += 1;
-    }
-    q
-}
-
-fn with_places(k: Kernel, l: &[u8]) -> Kernel {
-    let mut next = k;
-    next.places = queue_of(l);
-    next
-}
-
-fn with_time(k: Kernel, l: &[u8]) -> Kernel {
-    let mut next = k;
-    next.time = queue_of(l);
-    next
-}
-
-fn with_posted(k: Kernel, l: &[u8]) -> Kernel {
-    let mut next = k;
-    next.posted = queue_of(l);
-    next
-}
-
-fn thread(priority: u8, condition: Condition, ticks: u32) -> Thread {
-    Thread {
-        live: true,
-        priority: priority,
-        first: priority,
-        condition: condition,
-        ticks: ticks,
-        wake: Wake::None,
-        reply: 255,
+fn changed_thread(r: Thread, c: u8, n: u32) -> Thread {
+    match c {
+        b'l' => Thread { live: true, ..r },
+        b'p' => Thread {
+            priority: byte(n),
+            ..r
+        },
+        b'f' => Thread {
+            first: byte(n),
+            ..r
+        },
+        b'k' => Thread { ticks: n, ..r },
+        b'w' => Thread {
+            wake: Wake::Met,
+            ..r
+        },
+        b'y' => Thread {
+            reply: byte(n),
+            ..r
+        },
+        _ => changed_condition(r, c, n),
     }
 }
 
-fn message(owner: u8, channel: u8) -> Message {
-    Message {
-        live: true,
-        owner: owner,
-        sender: 0,
-        kind: 1,
-        size: 2,
-        address: 3,
-        channel: channel,
+fn changed_semaphore(r: Semaphore, c: u8, n: u32) -> Semaphore {
+    match c {
+        b'l' => Semaphore { live: true, ..r },
+        b'c' => Semaphore {
+            count: half(n),
+            ..r
+        },
+        b'x' => Semaphore {
+            maximum: half(n),
+            ..r
+        },
+        b'k' => Semaphore { ticks: n, ..r },
+        b'd' => Semaphore { period: n, ..r },
+        _ => r,
     }
 }
 
-// Two ready threads, two on semaphore 0, one on event 1, a sleeper, and one that waits for messages on channels 2 and 3.
-fn busy_threads() -> Kernel {
-    let mut k = kernel::records::fresh();
-    k.threads[0] = thread(5, Condition::Ready, 0);
-    k.threads[1] = thread(5, Condition::Ready, 0);
-    k.threads[2] = thread(3, Condition::ForSemaphore(0), 4);
-    k.threads[3] = thread(7, Condition::ForSemaphore(0), 0);
-    k.threads[4] = thread(4, Condition::ForEvent(1), 9);
-    k.threads[5] = thread(2, Condition::Asleep, 4);
-    k.threads[6] = thread(6, Condition::ForMessage(6), 0);
-    k.runner = 0;
-    with_time(with_places(k, &[0, 1, 2, 3, 4]), &[2, 5, 4])
+fn changed_event(r: Event, c: u8, n: u32) -> Event {
+    match c {
+        b'x' => Event { mask: n, ..r },
+        b'y' => Event { values: n, ..r },
+        _ => r,
+    }
 }
 
-// With a periodic semaphore whose delay is above its period, an event that waits for bit 0, and messages held and queued.
-fn busy() -> Kernel {
-    let mut k = busy_threads();
-    k.semaphores[0] = Semaphore {
-        live: true,
-        count: 0,
-        maximum: 3,
-        ticks: 0,
-        period: 0,
-    };
-    k.semaphores[1] = Semaphore {
-        live: true,
-        count: 2,
-        maximum: 2,
-        ticks: 5,
-        period: 3,
-    };
-    k.events[1] = Event {
-        any: true,
-        mask: 1,
-        values: 1,
-    };
-    k.messages[0] = message(0, 0);
-    k.messages[1] = message(6, 1);
-    k.messages[2] = message(0, 2);
-    k.messages[3] = message(0, 2);
-    with_posted(k, &[2, 3, 1])
+fn changed_message(r: Message, c: u8, n: u32) -> Message {
+    match c {
+        b'l' => Message { live: true, ..r },
+        b'o' => Message {
+            owner: byte(n),
+            ..r
+        },
+        b'n' => Message {
+            sender: byte(n),
+            ..r
+        },
+        b'z' => Message { size: n, ..r },
+        b'h' => Message {
+            channel: byte(n),
+            ..r
+        },
+        _ => r,
+    }
 }
 
-// ---- states that look odd and keep every rule
-
-fn old_reason() -> Kernel {
-    let mut k = busy();
-    let t = k.threads[3];
-    k.threads[3] = Thread {
-        live: t.live,
-        priority: t.priority,
-        first: t.first,
-        condition: Condition::ForSemaphore(0),
-        ticks: t.ticks,
-        wake: Wake::Met,
-        reply: 7,
-    };
-    k
-}
-
-fn dangling() -> Kernel {
-    let mut k = busy();
-    k.threads[1].reply = 63;
-    k.messages[0].sender = 31;
-    k
-}
-
-// The ids below n, in order.
-fn ids_below(n: usize) -> Queue {
-    let mut q = queue::empty();
-    let mut i: usize = 0;
-    while i < n {
-        if 64 <= i {
-            return q;
+// The ids from the last one on, up to n.
+fn through(q: Queue, n: u32) -> Queue {
+    let mut next = q;
+    let mut i = queue::size(q);
+    while i < 64 {
+        if n < i as u32 {
+            return next;
         }
-        q = queue::with_at(q, i, i as u8);
+        next = queue::with_at(next, i, i as u8);
         i += 1;
     }
-    q
+    next
 }
 
-fn all_threads() -> Kernel {
-    let mut k = kernel::records::fresh();
-    let all = [thread(30, Condition::Ready, 0); 32];
-    k.threads = all;
-    k.places = ids_below(32);
-    k.runner = 0;
-    k
-}
-
-fn all_asleep() -> Kernel {
-    let mut k = kernel::records::fresh();
-    let all = [thread(1, Condition::Asleep, 4294967295); 32];
-    k.threads = all;
-    k.time = ids_below(32);
-    k
-}
-
-fn all_messages() -> Kernel {
-    let mut k = all_threads();
-    let all = [message(31, 15); 64];
-    k.messages = all;
-    k.posted = ids_below(64);
-    k
-}
-
-fn show_all() {
-    show(b"fresh", kernel::records::fresh());
-    show(b"busy, a delay above the period", busy());
-    show(
-        b"the runner isn't first in an unscheduled region",
-        runs(1, 0, 1),
-    );
-    show(
-        b"the runner isn't first in a critical region",
-        runs(0, 255, 1),
-    );
-    show(
-        b"a waiting thread with an old reason and reply",
-        old_reason(),
-    );
-    show(b"a sender and a reply that name nothing live", dangling());
-    show(b"all threads ready", all_threads());
-    show(b"all threads asleep", all_asleep());
-    show(b"all messages in one channel", all_messages());
-}
-
-// ---- wrong places: in the lists and queues, in the time queue, in the channels
-
-// The queue with another length, and garbage in its last place.
+// Another length, and garbage in the last place.
 fn garbled(q: Queue, length: u8) -> Queue {
     let mut next = q;
     next.at[63] = 1;
@@ -210,261 +168,202 @@ fn garbled(q: Queue, length: u8) -> Queue {
     next
 }
 
-fn garbled_places(length: u8) -> Kernel {
-    let mut k = busy();
-    k.places = garbled(k.places, length);
-    k
-}
-
-fn garbled_time(length: u8) -> Kernel {
-    let mut k = busy();
-    k.time = garbled(k.time, length);
-    k
-}
-
-fn garbled_channels(length: u8) -> Kernel {
-    let mut k = busy();
-    k.posted = garbled(k.posted, length);
-    k
-}
-
-// Thread t in this condition.
-fn waiting(t: usize, priority: u8, condition: Condition, ticks: u32) -> Kernel {
-    let mut k = busy();
-    if t < 32 {
-        k.threads[t] = thread(priority, condition, ticks);
+fn changed_table(q: Queue, c: u8, n: u32) -> Queue {
+    match c {
+        b',' => queue::with_at(q, 64, byte(n)),
+        b'-' => through(q, n),
+        b'L' => garbled(q, byte(n)),
+        b' ' => q,
+        _ => queue::with_at(queue::empty(), 0, byte(n)),
     }
-    k
 }
 
-fn show_places() {
-    let k = busy();
-    show(
-        b"readyPlaces: a ready thread without a place",
-        with_places(k, &[0, 2, 3, 4]),
-    );
-    show(
-        b"readyPlaces: a ready thread twice",
-        with_places(k, &[0, 1, 1, 2, 3, 4]),
-    );
-    show(
-        b"semaphorePlaces: a waiter without a place",
-        with_places(k, &[0, 1, 2, 4]),
-    );
-    show(
-        b"eventPlaces: a waiter without a place",
-        with_places(k, &[0, 1, 2, 3]),
-    );
-    show(
-        b"liveSemaphores: a waiter on a dead semaphore",
-        waiting(3, 7, Condition::ForSemaphore(5), 0),
-    );
-    show(
-        b"liveEvents: a waiter on event 9",
-        waiting(4, 4, Condition::ForEvent(9), 9),
-    );
-    show(
-        b"noOtherPlaces: a sleeper in the table",
-        with_places(k, &[0, 1, 2, 3, 4, 5]),
-    );
-    show(
-        b"noOtherPlaces: an id that is no thread",
-        with_places(k, &[0, 1, 2, 3, 4, 200]),
-    );
-}
+// ---- a change of a state
 
-fn show_store() {
-    let k = busy();
-    show(b"unusedStore: places", garbled_places(5));
-    show(b"unusedStore: time queue", garbled_time(3));
-    show(b"unusedStore: channels", garbled_channels(3));
-    show(b"a length of 255: places", garbled_places(255));
-    show(b"a length of 255: time queue", garbled_time(255));
-    show(b"a length of 65: channels", garbled_channels(65));
-    show(
-        b"waitingOrder: the lower priority first",
-        with_places(k, &[0, 1, 3, 2, 4]),
-    );
-    show(
-        b"storeOrder: a waiting queue before the ready list",
-        with_places(k, &[2, 3, 0, 1, 4]),
-    );
-}
-
-fn still_asleep() -> Kernel {
-    let mut k = busy();
-    k.threads[5].ticks = 0;
-    with_time(k, &[5, 2, 4])
-}
-
-fn show_time() {
-    let k = busy();
-    show(
-        b"timePlaces: a sleeper without a place",
-        with_time(k, &[2, 4]),
-    );
-    show(
-        b"timePlaces: a timed waiter without a place",
-        with_time(k, &[5, 4]),
-    );
-    show(
-        b"timePlaces: an untimed thread in the time queue",
-        with_time(k, &[0, 2, 5, 4]),
-    );
-    show(b"timeOrder: the later first", with_time(k, &[4, 2, 5]));
-    show(b"ticksLeft: a sleeper with none", still_asleep());
-    show(
-        b"otherTicks: a ready thread with ticks",
-        waiting(1, 5, Condition::Ready, 3),
-    );
-}
-
-// Message m with this owner, sender and channel.
-fn messaged(m: usize, owner: u8, sender: u8, channel: u8) -> Kernel {
-    let mut k = busy();
-    if m < 64 {
-        k.messages[m].owner = owner;
-        k.messages[m].sender = sender;
-        k.messages[m].channel = channel;
+fn with_thread(k: Kernel, id: usize, c: u8, n: u32) -> Kernel {
+    let mut next = k;
+    if 32 <= id {
+        return next;
     }
-    k
-}
-
-fn show_channels() {
-    let k = busy();
-    show(
-        b"noneAwaited: a message on a masked channel",
-        messaged(1, 6, 0, 2),
-    );
-    show(
-        b"liveOwners: an owner that isn't live",
-        messaged(0, 9, 0, 0),
-    );
-    show(
-        b"channelPlaces: a queued message without a place",
-        with_posted(k, &[2, 1]),
-    );
-    show(
-        b"channelPlaces: a queued message twice",
-        with_posted(k, &[2, 3, 3, 1]),
-    );
-    show(
-        b"noOtherPosts: a held message in a channel",
-        with_posted(k, &[0, 2, 3, 1]),
-    );
-    show(b"messageSizes: channel 16", messaged(1, 6, 0, 16));
-    show(
-        b"storeOrder: a later owner's channel first",
-        with_posted(k, &[1, 2, 3]),
-    );
-}
-
-// ---- wrong records and a wrong runner
-
-fn priority(n: u8, first: u8) -> Kernel {
-    let mut k = busy();
-    k.threads[1].priority = n;
-    k.threads[1].first = first;
-    k
-}
-
-fn reply(n: u8) -> Kernel {
-    let mut k = busy();
-    k.threads[1].reply = n;
-    k
-}
-
-fn dead_thread() -> Kernel {
-    let mut k = busy();
-    k.threads[9].reply = 255;
-    k
-}
-
-fn show_threads() {
-    show(b"prioritySizes: priority 31", priority(31, 5));
-    show(b"prioritySizes: first priority 0", priority(5, 0));
-    show(b"prioritySizes: first priority 31", priority(5, 31));
-    show(
-        b"maskSizes: mask 0",
-        waiting(6, 6, Condition::ForMessage(0), 0),
-    );
-    show(
-        b"maskSizes: mask 32768",
-        waiting(6, 6, Condition::ForMessage(32768), 0),
-    );
-    show(b"replySizes: reply 64", reply(64));
-    show(b"replySizes: reply 254", reply(254));
-    show(b"deadThreads: a reply of 255", dead_thread());
-}
-
-fn counted(i: usize, count: u16, maximum: u16) -> Kernel {
-    let mut k = busy();
-    if i < 16 {
-        k.semaphores[i].count = count;
-        k.semaphores[i].maximum = maximum;
+    let r = changed_thread(k.threads[id], c, n);
+    if c == b'*' {
+        let all = [r; 32];
+        next.threads = all;
+        return next;
     }
-    k
+    next.threads[id] = r;
+    next
 }
 
-fn ticking(i: usize, ticks: u32, period: u32) -> Kernel {
-    let mut k = busy();
-    if i < 16 {
-        k.semaphores[i].ticks = ticks;
-        k.semaphores[i].period = period;
+fn with_semaphore(k: Kernel, id: usize, c: u8, n: u32) -> Kernel {
+    let mut next = k;
+    if 16 <= id {
+        return next;
     }
-    k
+    next.semaphores[id] = changed_semaphore(k.semaphores[id], c, n);
+    next
 }
 
-fn dead_message() -> Kernel {
-    let mut k = busy();
-    k.messages[40].size = 1;
-    k
+fn with_event(k: Kernel, id: usize, c: u8, n: u32) -> Kernel {
+    let mut next = k;
+    if 8 <= id {
+        return next;
+    }
+    next.events[id] = changed_event(k.events[id], c, n);
+    next
 }
 
-fn true_event() -> Kernel {
-    let mut k = busy();
-    k.bits = 1;
-    k
+fn with_message(k: Kernel, id: usize, c: u8, n: u32) -> Kernel {
+    let mut next = k;
+    if 64 <= id {
+        return next;
+    }
+    let r = changed_message(k.messages[id], c, n);
+    if c == b'*' {
+        let all = [r; 64];
+        next.messages = all;
+        return next;
+    }
+    next.messages[id] = r;
+    next
 }
 
-fn show_objects() {
-    show(b"waitersAtZero: waiters at count 1", counted(0, 1, 3));
-    show(b"countsAtMost: count 3 of 2", counted(1, 3, 2));
-    show(b"maximumSizes: maximum 0", counted(0, 0, 0));
-    show(b"periodicTicks: no ticks left", ticking(1, 0, 3));
-    show(b"unperiodicTicks: ticks without a period", ticking(0, 2, 0));
-    show(b"deadSemaphores: a maximum", counted(7, 0, 1));
-    show(
-        b"trueWithoutWaiters: a TRUE event with a waiter",
-        true_event(),
-    );
-    show(b"messageSizes: sender 32", messaged(0, 0, 32, 0));
-    show(b"deadMessages: a size", dead_message());
+fn with_table(k: Kernel, table: u8, c: u8, n: u32) -> Kernel {
+    let mut next = k;
+    match table {
+        b'P' => {
+            next.places = changed_table(k.places, c, n);
+            next
+        }
+        b'T' => {
+            next.time = changed_table(k.time, c, n);
+            next
+        }
+        b'C' => {
+            next.posted = changed_table(k.posted, c, n);
+            next
+        }
+        _ => next,
+    }
 }
 
-fn runs(unscheduled: u8, critical: u8, runner: u8) -> Kernel {
-    let mut k = busy();
-    k.unscheduled = unscheduled;
-    k.critical = critical;
-    k.runner = runner;
-    k
+// A number of the whole state.
+fn with_number(k: Kernel, c: u8, n: u32) -> Kernel {
+    let mut next = k;
+    match c {
+        b'b' => {
+            next.bits = n;
+            next
+        }
+        b'u' => {
+            next.unscheduled = byte(n);
+            next
+        }
+        b'v' => {
+            next.critical = byte(n);
+            next
+        }
+        b'r' => {
+            next.runner = byte(n);
+            next
+        }
+        _ => next,
+    }
 }
 
-fn show_runner() {
-    show(b"firstRuns: the second runs", runs(0, 0, 1));
-    show(b"firstRuns: nobody runs", runs(0, 0, 255));
-    show(b"someRuns: a waiting thread runs", runs(1, 0, 3));
-    show(b"someRuns: nobody runs", runs(0, 1, 255));
-    show(b"someRuns: an id that is no thread", runs(2, 2, 32));
+fn chosen(old: Choice, c: u8, n: u32) -> Choice {
+    match c {
+        b't' | b's' | b'e' | b'm' | b'P' | b'T' | b'C' => Choice {
+            kind: c,
+            id: n as usize,
+        },
+        _ => old,
+    }
+}
+
+fn changed(k: Kernel, at: Choice, c: u8, n: u32) -> Kernel {
+    match c {
+        b'F' => kernel::records::fresh(),
+        b'b' | b'u' | b'v' | b'r' => with_number(k, c, n),
+        _ => {
+            let kind = at.kind;
+            match kind {
+                b't' => with_thread(k, at.id, c, n),
+                b's' => with_semaphore(k, at.id, c, n),
+                b'e' => with_event(k, at.id, c, n),
+                b'm' => with_message(k, at.id, c, n),
+                _ => with_table(k, kind, c, n),
+            }
+        }
+    }
+}
+// The state after the changes of a line.
+fn made(k: Kernel, s: &[u8]) -> Kernel {
+    let mut next = k;
+    let mut at = Choice { kind: 0, id: 0 };
+    let mut c = b' ';
+    let mut n: u32 = 0;
+    let mut i: usize = 0;
+    while i < s.len() {
+        let b = s[i];
+        if 48 <= b && b <= 57 {
+            n = with_digit(n, b - 48);
+        } else {
+            at = chosen(at, c, n);
+            next = changed(next, at, c, n);
+            c = b;
+            n = 0;
+        }
+        i += 1;
+    }
+    changed(next, chosen(at, c, n), c, n)
+}
+
+// ---- the lines
+
+// A line of the output: the state's name, and what the test says.
+fn show(name: &[u8], k: Kernel) {
+    io::write_all(1, name);
+    if tested::keeps_rules(k) {
+        io::write_all(1, b" kept\n");
+    } else {
+        io::write_all(1, b" broken\n");
+    }
+}
+
+// The first place of b from `at` on, or the end.
+fn place_of(s: &[u8], at: usize, b: u8) -> usize
+    requires { ⌜ at ≤ length (now s) ⌝ }
+    ensures { λ r. ⌜ (at ≤ r) × (r ≤ length (now (s .entry))) ⌝ }
+{
+    let mut i = at;
+    while i < s.len() {
+        if s[i] == b {
+            return i;
+        }
+        i += 1;
+    }
+    i
+}
+
+// The first line makes the busy state; of each later one, the name stands before the bar and the state's changes behind it.
+fn show_all(s: &[u8]) {
+    let mut at = place_of(s, 0, b'\n');
+    let busy = made(kernel::records::fresh(), &s[..at]);
+    while at < s.len() {
+        let from = at + 1;
+        if from == s.len() {
+            return;
+        }
+        let bar = place_of(s, from, b'|');
+        let end = place_of(s, bar, b'\n');
+        show(&s[from..bar], made(busy, &s[bar..end]));
+        at = end;
+    }
 }
 
 fn main() {
-    show_all();
-    show_places();
-    show_store();
-    show_time();
-    show_channels();
-    show_threads();
-    show_objects();
-    show_runner();
+    let mut input = [0u8; 16384];
+    let n = io::read_full(0, &mut input);
+    show_all(&input[..n]);
 }

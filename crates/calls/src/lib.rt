@@ -1,5 +1,3 @@
-// Sixteen bytes as a call, the table of kinds, and the refusals.
+// Sixteen bytes as a call, and the records that it names; the code of the refusals is in `refusing`.
 pub mod call;
-pub mod kinds;
 pub mod named;
-pub mod refusals;

@@ -5,6 +5,8 @@ use crate::call::Call;
 use kernel::records::Kernel;
 use kernel::records::Message;
 use kernel::records::Semaphore;
+use kernel::records::no_message;
+use kernel::records::no_semaphore;
 use seek::records;
 
 // What the refusals need to know of thread a, thread b, semaphore a, event a and message a, of the kinds that name them.
@@ -22,23 +24,9 @@ fn nothing() -> Named
     Named {
         thread: false,
         other: false,
-        semaphore: Semaphore {
-            live: false,
-            count: 0,
-            maximum: 0,
-            ticks: 0,
-            period: 0,
-        },
+        semaphore: no_semaphore(),
         truth: false,
-        message: Message {
-            live: false,
-            owner: 0,
-            sender: 0,
-            kind: 0,
-            size: 0,
-            address: 0,
-            channel: 0,
-        },
+        message: no_message(),
     }
 }
 

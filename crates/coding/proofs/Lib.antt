@@ -4,3 +4,4 @@ pub mod Writing
 pub mod Codec
 pub mod Appending
 pub mod Turns
+pub mod Fitted

@@ -57,6 +57,12 @@ unfoldable pub sum : List ℕ → ℕ
 sum [] = 0
 sum (w ∷ ws) = w + sum ws
 
+-- Each field as far as its width goes: all of it, where it fits.
+unfoldable pub fitted : List ℕ → List ℕ → List ℕ
+fitted [] xs = []
+fitted (w ∷ ws) [] = []
+fitted (w ∷ ws) (x ∷ xs) = x % 256 ^ w ∷ fitted ws xs
+
 -- There are as many fields as widths, and each fits its own.
 abbrev pub Fit : List ℕ → List ℕ → Type 0
 Fit [] [] = Unit {0}

@@ -1,4 +1,5 @@
 -- The laws that the functions' proofs share.
 pub mod ByKind
 pub mod Pulses
+pub mod LawsOfKinds
 pub mod LawsOfTime

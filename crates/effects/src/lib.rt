@@ -1,3 +1,1 @@
-// What a tick does, and what every kind does.
-pub mod effect;
-pub mod time;
+// What a tick does, and what every kind does: definitions and laws. Their code is in `ticking` and `acting`.

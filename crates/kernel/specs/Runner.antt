@@ -1,10 +1,11 @@
 -- Who runs: the first ready thread.
-use Prim.Native.Nat.{ℕ, zero, suc}
+use Prim.Native.Nat.{ℕ, zero, suc, _+_}
 use mathlib.Core.Bool.{cond}
 use mathlib.Core.List.{List, [], _++_}
-use lib.Dec.{ltb}
+use lib.Dec.{eqb, ltb}
 use Rattle.queue.specs.Lists.{firstOf}
 use Rattle.queue.specs.Queues.{items}
+use Rattle.kernel.specs.declared.records.Thread.{Thread}
 use Rattle.kernel.specs.declared.records.Kernel.{Kernel}
 use Rattle.kernel.specs.Records.{thread}
 use Rattle.kernel.specs.Places.{readyList, homeOf, semaphoreHome}
@@ -21,3 +22,8 @@ firstReady k = firstOf (readyFrom k 1 30)
 -- the first place, where it is in a ready list; in a state that keeps the rules this is the first ready one
 unfoldable pub chosen : Kernel → ℕ
 chosen k = cond (ltb (homeOf (thread k (firstOf (items (k .places))))) (semaphoreHome 0)) (firstOf (items (k .places))) 255
+
+-- the same from the levels, who ran, the first place and its record
+unfoldable pub runnerOf : ℕ → ℕ → ℕ → ℕ → Thread → ℕ
+runnerOf unscheduled critical runner first r =
+    cond (eqb (unscheduled + critical) 0) (cond (ltb (homeOf r) (semaphoreHome 0)) first 255) runner

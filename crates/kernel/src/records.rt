@@ -78,7 +78,7 @@ pub struct Kernel {
 }
 
 // The records that aren't live: all fields are 0.
-fn no_thread() -> Thread
+pub fn no_thread() -> Thread
     ensures { λ r. ⌜ r ≡ noThread ⌝ }
 {
     Thread {
@@ -92,7 +92,7 @@ fn no_thread() -> Thread
     }
 }
 
-fn no_semaphore() -> Semaphore
+pub fn no_semaphore() -> Semaphore
     ensures { λ r. ⌜ r ≡ noSemaphore ⌝ }
 {
     Semaphore {
@@ -104,7 +104,7 @@ fn no_semaphore() -> Semaphore
     }
 }
 
-fn no_message() -> Message
+pub fn no_message() -> Message
     ensures { λ r. ⌜ r ≡ noMessage ⌝ }
 {
     Message {

@@ -1,8 +1,9 @@
 // Who runs when no region is held.
 ghost use mathlib.Core.Path.{_≡_};
-ghost use Rattle.kernel.specs.Runner.{chosen};
+ghost use Rattle.kernel.specs.Runner.{chosen, runnerOf};
 use crate::places;
 use crate::records::Kernel;
+use crate::records::Thread;
 
 // The first place, where it is in a ready list; else nobody.
 pub fn chosen(k: Kernel) -> u8
@@ -16,4 +17,21 @@ pub fn chosen(k: Kernel) -> u8
     let i = first as usize;
     let r = k.threads[i];
     if places::home_of(r) < 256 { first } else { 255 }
+}
+
+// Who runs, from the levels, who ran, the first place and its record.
+pub fn runner_of(unscheduled: u8, critical: u8, runner: u8, first: u8, its: Thread) -> u8
+    ensures { λ x. ⌜ x ≡ runnerOf unscheduled critical runner first its ⌝ }
+{
+    if unscheduled != 0 {
+        return runner;
+    }
+    if critical != 0 {
+        return runner;
+    }
+    if places::home_of(its) < 256 {
+        first
+    } else {
+        255
+    }
 }

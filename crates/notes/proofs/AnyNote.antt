@@ -1,19 +1,18 @@
 -- Whatever bytes a note holds, the state that is put back has its sizes, and its fields their limits.
-use Prim.Native.Nat.{ℕ, zero, suc, _+_, _/_, _^_, _≤_, _<_}
+use Prim.Native.Nat.{ℕ, zero, suc, _+_, _≤_, _<_}
 use mathlib.Core.Path.{_≡_, refl, _∙_}
 use mathlib.Core.Bool.{Bool, true, false, cond, _&&_}
 use mathlib.Core.List.{List, [], _∷_, map}
 use native.Mathlib.Omega.{arith}
 use lib.Dec.{eqb, ltb}
-use lib.ListN.{length, getD, take, drop, length-set, length-map, length-append, length-replicate, List·getD-eq-default}
-use lib.Seq.{getD-drop}
+use lib.ListN.{length, getD, drop, length-set, length-map, length-append, length-replicate, List·getD-eq-default}
 use borrow.Author.Tests.{ltb-true, ltb-false}
 use borrow.Table.Steps.{cases}
 use Rattle.queue.specs.declared.Queue.{Queue}
 use Rattle.queue.specs.Lists.{keep}
 use Rattle.queue.specs.Queues.{items, pack}
-use Rattle.coding.specs.Rows.{flagged, taken, usedBy, rowFrom}
-use Rattle.coding.proofs.Numbers.{un-small}
+use Rattle.coding.specs.Rows.{usedBy, rowFrom}
+use Rattle.coding.proofs.Fitted.{Bytes, drop-bytes, row-at}
 use Rattle.kernel.specs.declared.records.Thread.{Thread}
 use Rattle.kernel.specs.declared.records.Semaphore.{Semaphore}
 use Rattle.kernel.specs.declared.records.Event.{Event}
@@ -28,28 +27,6 @@ use Rattle.notes.specs.Back.{place, merge, putBackAll, Threading, readTh
 use Rattle.notes.specs.Back.{readEvents, bitChanged, eventsBefore, Filing, readMessages, messagesBefore}
 use Rattle.notes.proofs.EntriesBack.{getD-map}
 use Rattle.notes.proofs.Limits.{SmallSemaphore, SmallEvent, set-all}
-
--- ---- bytes
-abbrev pub Bytes : List ℕ → Type 0
-Bytes s = (i : ℕ) → getD s i 0 < 256
-
-pub drop-bytes : (n : ℕ) (s : List ℕ) → Bytes s → Bytes (drop n s)
-drop-bytes n s h i = rw getD-drop (h (n + i))
-
-pub take-bytes : (n : ℕ) (s : List ℕ) → Bytes s → Bytes (take n s)
-take-bytes zero s h i = omega arith
-take-bytes (suc n) [] h i = omega arith
-take-bytes (suc n) (x ∷ s) h zero = h 0
-take-bytes (suc n) (x ∷ s) h (suc i) = take-bytes n s (λ j. h (suc j)) i
-
--- a field that is read fits its width where the predicted one does
-row-at : (ws : List ℕ) (flags : ℕ) (ps s : List ℕ) → Bytes s → (i : ℕ) → getD ps i 0 < 256 ^ getD ws i 0
-    → getD (rowFrom ws flags ps s) i 0 < 256 ^ getD ws i 0
-unfolding rowFrom
-row-at [] flags ps s h i p = omega arith
-row-at (w ∷ ws) flags [] s h i p = p
-row-at (w ∷ ws) flags (x ∷ ps) s h zero p = cases (flagged flags) (λ e. rw e (un-small w s h)) (λ e. rw e p)
-row-at (w ∷ ws) flags (x ∷ ps) s h (suc i) p = row-at ws (flags / 2) ps (drop (taken w flags) s) (drop-bytes (taken w flags) s h) i p
 
 either-below : (b : Bool) (x y n : ℕ) → x < n → y < n → cond b x y < n
 either-below true x y n p q = p

@@ -53,7 +53,7 @@ unfolding sameSemaphore
 semaphore-same r = row-same (semaphoreRow r)
 
 -- without a tick, and without ticks, nobody was younger
-younger-now : (c : Call) (r : Thread) → is c 1 ≡ false → youngerThread c r ≡ r
+pub younger-now : (c : Call) (r : Thread) → is c 1 ≡ false → youngerThread c r ≡ r
 unfolding youngerThread
 younger-now c r o = rw o
 
@@ -61,7 +61,7 @@ younger-still : (c : Call) (r : Thread) → r .ticks ≡ 0 → youngerThread c r
 unfolding youngerThread
 younger-still c r e = let z : ltb 0 (r .ticks) ≡ false = le-ltb 0 (r .ticks) (omega arith) in rw (z, and-false)
 
-semaphore-now : (c : Call) (r : Semaphore) → is c 1 ≡ false → youngerSemaphore c r ≡ r
+pub semaphore-now : (c : Call) (r : Semaphore) → is c 1 ≡ false → youngerSemaphore c r ≡ r
 unfolding youngerSemaphore
 semaphore-now c r o = rw o
 
@@ -70,7 +70,7 @@ unfolding youngerSemaphore
 semaphore-still c r e = let z : ltb 0 (r .period) ≡ false = le-ltb 0 (r .period) (omega arith) in rw (z, and-false)
 
 -- only one moves in place
-moves-which : (runner : ℕ) (c : Call) (t : ℕ) → movesInPlace runner c t ≡ true → t ≡ cond (is c 6) runner (c .a)
+pub moves-which : (runner : ℕ) (c : Call) (t : ℕ) → movesInPlace runner c t ≡ true → t ≡ cond (is c 6) runner (c .a)
 moves-which runner c t h =
     cases (is c 6)
     (λ e. let z = eqb-true (c .kind) 6 e in rw e (eqb-true t runner (simp (z, or-false) at h)))

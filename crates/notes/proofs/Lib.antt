@@ -20,6 +20,8 @@ pub mod EntriesShort
 pub mod Slight
 pub mod TickSlight
 pub mod Lengths
+pub mod InSpans
+pub mod SpansOfCalls
 pub mod FramesRead
 pub mod Yields
 pub mod SameStates

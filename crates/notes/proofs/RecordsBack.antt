@@ -1,8 +1,9 @@
 -- A record's row gives the record back, so rows that are the same mean equal records.
 use Prim.Native.Nat.{ℕ, _<_}
 use mathlib.Core.Path.{_≡_, refl, sym, ap, _∙_}
-use mathlib.Core.Bool.{Bool, true, false, not, and-eq-true-iff, false≢true}
+use mathlib.Core.Bool.{Bool, true, false, not, cond, and-eq-true-iff, false≢true}
 use mathlib.Core.List.{List, [], _∷_}
+use native.Mathlib.Nat.{mod-eq-of-lt}
 use native.Mathlib.Omega.{arith}
 use lib.Dec.{eqb}
 use lib.ListN.{getD, drop}
@@ -32,13 +33,34 @@ code-live (ForSemaphore i) = refl
 code-live (ForEvent i) = refl
 code-live (ForMessage mask) = refl
 
-condition-back : (c : Condition) → conditionFrom (conditionCode c) (conditionData c) ≡ c
+-- the object's id is a byte
+abbrev pub ByteId : Condition → Type 0
+ByteId Ready = Unit {0}
+ByteId Asleep = Unit {0}
+ByteId (ForSemaphore i) = i < 256
+ByteId (ForEvent i) = i < 256
+ByteId (ForMessage mask) = Unit {0}
+
+condition-back : (c : Condition) → ByteId c → conditionFrom (conditionCode c) (conditionData c) ≡ c
 unfolding conditionFrom
-condition-back Ready = refl
-condition-back Asleep = refl
-condition-back (ForSemaphore i) = refl
-condition-back (ForEvent i) = refl
-condition-back (ForMessage mask) = refl
+condition-back Ready h = refl
+condition-back Asleep h = refl
+condition-back (ForSemaphore i) h = rw (mod-eq-of-lt h)
+condition-back (ForEvent i) h = rw (mod-eq-of-lt h)
+condition-back (ForMessage mask) h = refl
+
+-- the same for an id of any size
+abbrev anyCondition : ℕ → ℕ → Condition
+anyCondition code what =
+    cond (eqb code 2) Asleep
+    (cond (eqb code 3) (ForSemaphore what) (cond (eqb code 4) (ForEvent what) (cond (eqb code 5) (ForMessage what) Ready)))
+
+any-back : (c : Condition) → anyCondition (conditionCode c) (conditionData c) ≡ c
+any-back Ready = refl
+any-back Asleep = refl
+any-back (ForSemaphore i) = refl
+any-back (ForEvent i) = refl
+any-back (ForMessage mask) = refl
 
 wake-back : (w : Wake) → wakeFrom (wakeCode w) ≡ w
 unfolding wakeFrom
@@ -61,12 +83,26 @@ flag-below false = omega arith
 abbrev pub Dead : Thread → Type 0
 Dead r = r .live ≡ false → r ≡ noThread
 
-pub thread-back : (r : Thread) (place due : ℕ) → Dead r → threadFrom (threadCode r) (threadRow r place due) ≡ r
-unfolding threadFrom conditionFrom wakeFrom
-thread-back r place due D =
+-- the thread of a row, by what its code and data say of its condition
+abbrev threadBy : (ℕ → ℕ → Condition) → ℕ → List ℕ → Thread
+threadBy condition code row =
+    record {
+      live = not (eqb code 0);
+      priority = getD row 0 0;
+      first = getD row 1 0;
+      condition = condition code (getD row 2 0);
+      ticks = getD row 3 0;
+      wake = wakeFrom (getD row 4 0);
+      reply = getD row 5 0;
+    }
+
+by-back : (f : ℕ → ℕ → Condition) → f 0 0 ≡ Ready → (r : Thread) (place due : ℕ) → Dead r
+    → f (conditionCode (r .condition)) (conditionData (r .condition)) ≡ r .condition → threadBy f (threadCode r) (threadRow r place due) ≡ r
+unfolding wakeFrom
+by-back f z r place due D b =
     cases (r .live)
     (λ e. let l : not (eqb (threadCode r) 0) ≡ r .live = rw e (code-live (r .condition)) in
-    let c : conditionFrom (threadCode r) (conditionData (r .condition)) ≡ r .condition = rw e (condition-back (r .condition)) in
+    let c : f (threadCode r) (conditionData (r .condition)) ≡ r .condition = rw e b in
     λ i. record {
       live = l i;
       priority = r .priority;
@@ -76,7 +112,11 @@ thread-back r place due D =
       wake = wake-back (r .wake) i;
       reply = r .reply;
     })
-    (λ e. rw (D e))
+    (λ e. rw (D e, z))
+
+pub thread-back : (r : Thread) (place due : ℕ) → Dead r → ByteId (r .condition) → threadFrom (threadCode r) (threadRow r place due) ≡ r
+unfolding threadFrom conditionFrom
+thread-back r place due D b = by-back conditionFrom refl r place due D (condition-back (r .condition) b)
 
 pub semaphore-back : (r : Semaphore) → semaphoreFrom (semaphoreRow r) ≡ r
 unfolding semaphoreFrom
@@ -116,7 +156,8 @@ same-means row from {r} {s} p q h = sym p ∙ ap from (same-row (row r) (row s) 
 pub same-thread : (r s : Thread) → Dead r → Dead s → sameThread r s ≡ true → r ≡ s
 unfolding sameThread
 same-thread r s D E h =
-    same-means (λ r. threadCode r ∷ threadRow r 0 0) (λ row. threadFrom (getD row 0 0) (drop 1 row)) (thread-back r 0 0 D) (thread-back s 0 0 E) h
+    same-means (λ r. threadCode r ∷ threadRow r 0 0) (λ row. threadBy anyCondition (getD row 0 0) (drop 1 row))
+    (by-back anyCondition refl r 0 0 D (any-back (r .condition))) (by-back anyCondition refl s 0 0 E (any-back (s .condition))) h
 
 pub same-semaphore : (r s : Semaphore) → sameSemaphore r s ≡ true → r ≡ s
 unfolding sameSemaphore

@@ -58,11 +58,11 @@ row-same [] = refl
 row-same (x ∷ l) = rw (same x, row-same l)
 
 module _ (k : Kernel) (c : Call) (u : Kernel) where
-  event-stays : (i : ℕ) → event u i ≡ event k i → touchedEvent k c u i ≡ true → ⊥
+  pub event-stays : (i : ℕ) → event u i ≡ event k i → touchedEvent k c u i ≡ true → ⊥
   unfolding touchedEvent sameEvent
   event-stays i e h = false≢true (sym (rw (e, row-same (eventRow (event k i)))) ∙ h)
 
-  message-stays : (m : ℕ) → message u m ≡ message k m → touchedMessage k c u m ≡ true → ⊥
+  pub message-stays : (m : ℕ) → message u m ≡ message k m → touchedMessage k c u m ≡ true → ⊥
   unfolding touchedMessage sameMessage
   message-stays m e h = false≢true (sym (rw (e, row-same (messageRow (message k m) 0))) ∙ h)
 
@@ -93,7 +93,7 @@ module _ (k : Kernel) (c : Call) (u : Kernel) where
       }
 
 -- ---- what a post and the tick leave
-post-parts : (i : ℕ) (k : Kernel) → (post i k .events ≡ k .events) × (post i k .messages ≡ k .messages)
+pub post-parts : (i : ℕ) (k : Kernel) → (post i k .events ≡ k .events) × (post i k .messages ≡ k .messages)
 unfolding post wake
 post-parts i k = go (semaphoreQueue k i)
   where
@@ -107,7 +107,7 @@ pulse-parts i k =
     cases (eqb (semaphore k i .period) 0) (λ e. rw e (refl, refl))
     (λ e. cases (eqb (semaphore k i .ticks) 1) (λ h. rw (e, h) (post-parts i k)) (λ h. rw (e, h) (refl, refl)))
 
-pulses-parts : (i n : ℕ) (k : Kernel) → (pulseFrom i n k .events ≡ k .events) × (pulseFrom i n k .messages ≡ k .messages)
+pub pulses-parts : (i n : ℕ) (k : Kernel) → (pulseFrom i n k .events ≡ k .events) × (pulseFrom i n k .messages ≡ k .messages)
 unfolding pulseFrom
 pulses-parts i zero k = (refl, refl)
 pulses-parts i (suc n) k =

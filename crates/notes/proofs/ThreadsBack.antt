@@ -10,6 +10,8 @@ use lib.ListN.{set, replicate, length-map}
 use Rattle.queue.specs.Queues.{items}
 use Rattle.queue.specs.Tables.{oldPlace}
 use Rattle.queue.proofs.Queues.{length-items}
+use Rattle.kernel.specs.declared.records.Condition.{Condition}
+use Rattle.kernel.specs.declared.records.Condition.the-variants.{Ready, Asleep, ForSemaphore, ForEvent, ForMessage}
 use Rattle.kernel.specs.declared.records.Object.{Object}
 use Rattle.kernel.specs.declared.records.Wake.{Wake}
 use Rattle.kernel.specs.declared.records.Kernel.{Kernel}
@@ -18,6 +20,8 @@ use Rattle.kernel.specs.Places.{homeOf, hasHome}
 use Rattle.rules.specs.Rules.{Sized, Rules, DeadThreads}
 use Rattle.rules.proofs.FromRules.{standing}
 use Rattle.calls.specs.declared.call.Call.{Call}
+use Rattle.kept.proofs.Core.{Core, Fits, untrue, live-semaphore, condition-of}
+use Rattle.kept.proofs.Ends.{before}
 use Rattle.notes.specs.Rows.{threadCode, threadRow, threadWidths, wakeCode}
 use Rattle.notes.specs.Touched.{youngerThread, touchedThread}
 use Rattle.notes.specs.Predicted.{predictedThread}
@@ -26,11 +30,11 @@ use Rattle.notes.specs.Back.{putBackAll, Threading, readThreads, threads
 use Rattle.notes.specs.Within.{Within}
 use Rattle.notes.specs.Framed.{Framed}
 use Rattle.notes.proofs.RowsBack.{Fit, none, field, row-back, rest-back}
-use Rattle.notes.proofs.RecordsBack.{thread-back, same-thread, younger-dead}
+use Rattle.notes.proofs.RecordsBack.{ByteId, thread-back, same-thread, younger-dead}
 use Rattle.notes.proofs.EntriesBack.{getD-map, each, read-part, records-back}
 use Rattle.notes.proofs.TablesBack.{place-below, table-back}
 
-wake-below : (w : Wake) → wakeCode w < 256
+pub wake-below : (w : Wake) → wakeCode w < 256
 wake-below Wake.None = omega arith
 wake-below Wake.Met = omega arith
 wake-below (Wake.TimedOut Object.Semaphore) = omega arith
@@ -71,10 +75,23 @@ module _ (k : Kernel) (c : Call) (k′ : Kernel) where
         (field (λ _. place-below t (items (k .places)) (length-items (k .places) (Z .places)))
         (field (λ _. place-below t (items (k .time)) (length-items (k .time) (Z .time))) none)))))))
 
+    -- a live semaphore's id is a byte, and so is an event's
+    byte-id : (t : ℕ) → ByteId (thread k t .condition)
+    byte-id t =
+        let C = before k Z R .core in
+        go C (thread k t .condition) (condition-of C t)
+      where
+        go : Core (untrue k) k → (x : Condition) → Fits (k .semaphores) (untrue k) (thread k t .ticks) x → ByteId x
+        go C Ready h = tt
+        go C Asleep h = tt
+        go C (ForSemaphore i) h = omega (arith, live-semaphore C i (h .0))
+        go C (ForEvent i) h = omega arith
+        go C (ForMessage mask) h = tt
+
     next : (n t : ℕ) (rest : List ℕ) (a : Threading)
         → readThreads (suc n) c (k′ .threads) (threadEntry k c k′ t ++ rest) a ≡ readThreads n c (k′ .threads) rest (step t a)
     unfolding readThreads threadEntry DeadThreads
-    next n t rest a = rw (rest-back (_ ∷ _ ∷ []) rest (fits t), row-back rest (fits t), thread-back (thread k t) _ _ (R .deadThreads t))
+    next n t rest a = rw (rest-back (_ ∷ _ ∷ []) rest (fits t), row-back rest (fits t), thread-back (thread k t) _ _ (R .deadThreads t) (byte-id t))
 
     -- what the section gives, and a part of it
     abbrev read : Threading

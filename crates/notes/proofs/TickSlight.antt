@@ -62,7 +62,7 @@ tick-threads k c S t =
 
 -- ---- semaphores
 module _ (i : ℕ) where
-  post-other : (j : ℕ) (u : Kernel) → (i ≡ j → ⊥) → semaphore (post j u) i ≡ semaphore u i
+  pub post-other : (j : ℕ) (u : Kernel) → (i ≡ j → ⊥) → semaphore (post j u) i ≡ semaphore u i
   unfolding post wake
   post-other j u ne = go (semaphoreQueue u j)
     where

@@ -1,6 +1,6 @@
 -- An undo is accepted exactly if some state and call yield this end state and this note.
 use Prim.Native.Nat.{ℕ, _+_, _-_, _≤_, _<_}
-use mathlib.Core.Path.{_≡_, ap, _∙_}
+use mathlib.Core.Path.{_≡_, sym, ap, _∙_}
 use mathlib.Core.Bool.{Bool, true, false, cond, and-true, and-eq-true-iff}
 use mathlib.Core.List.{List, []}
 use mathlib.Core.Logic.{_↔_}
@@ -34,7 +34,8 @@ use Rattle.notes.proofs.Limits.{Limits, limits-within}
 use Rattle.notes.proofs.RecordsBack.{same-row}
 use Rattle.notes.proofs.Slight.{row-same}
 use Rattle.notes.proofs.SameStates.{kernel-same, same-exactly}
-use Rattle.notes.proofs.AnyNote.{Bytes, drop-bytes, take-bytes, threads-any, threads-sized, semaphores-any, semaphores-sized}
+use Rattle.coding.proofs.Fitted.{Bytes, drop-bytes, take-bytes}
+use Rattle.notes.proofs.AnyNote.{threads-any, threads-sized, semaphores-any, semaphores-sized}
 use Rattle.notes.proofs.AnyNote.{events-any, events-sized, messages-any, messages-sized, back-full}
 use Rattle.notes.proofs.FramesRead.{frames-back, note-sizes}
 use Rattle.notes.proofs.Yields.{yields-call, yields-back}
@@ -180,6 +181,7 @@ module _ (k′ : Kernel) (note : List ℕ) where
         let R₀ = rules-mean k Z₀ r in
         let n₀ = eqb-true (numberOf k c) 0 n in
         let (Z₁, R₁) = rules-kept k c Z₀ R₀ n₀ in
+        let s₀ = same-exactly (scheduled (effect k c)) k′ Z₁ Z R₁ R .0 s in
         record {
           sized = Z₀;
           inside = limits-within (before k Z₀ R₀) (found-limits l);
@@ -187,8 +189,8 @@ module _ (k′ : Kernel) (note : List ℕ) where
           sixteen = record-size b;
           small = record-bytes;
           accepted = n₀;
-          state = same-exactly (scheduled (effect k c)) k′ Z₁ Z R₁ R .0 s;
-          noted = same-row (noteOf k (recordIn note) k′) note e;
+          state = s₀;
+          noted = ap (noteOf k (recordIn note)) (sym s₀) ∙ same-row (noteOf k (recordIn note) (scheduled (effect k c))) note e;
         }
 
 -- ---- the last one of a log
@@ -199,19 +201,32 @@ module _ (log : List ℕ) (used : ℕ) where
       let n = lastLength log used in
       cases (hasLast log used) (λ e. rw e (take-bytes n (drop (used - n) log) (drop-bytes (used - n) log h))) (λ e. rw e (λ i. omega arith))
 
-  last-size : hasLast log used ≡ true → 28 ≤ length (lastNote log used)
+  pub last-sizes : hasLast log used ≡ true
+      → (length (lastNote log used) ≡ lastLength log used) × (28 ≤ lastLength log used) × (lastLength log used ≤ used)
   unfolding lastNote hasLast
-  last-size h =
+  last-sizes h =
       let n = lastLength log used in
       let (((_, b), c), d) = simp and-eq-true-iff at h in
       let b′ = leb-true used (length log) b in
       let c′ = leb-true 28 n c in
       let d′ = leb-true n used d in
-      rw h (simp (length-take, length-drop) (omega arith))
+      (rw h (simp (length-take, length-drop) (omega arith)), c′, d′)
 
   last-none : hasLast log used ≡ false → lastNote log used ≡ []
   unfolding lastNote
   last-none h = rw h
+
+  -- a last note that a state and a call yield is there, and is undone
+  module _ {k k′ : Kernel} {bytes : List ℕ} (Y : Yields k bytes k′ (lastNote log used)) where
+    pub yields-last : hasLast log used ≡ true
+    yields-last =
+        cases (hasLast log used) (λ e. e)
+        (λ e. let (low, _) = note-sizes k bytes k′ (Y .sixteen) in
+        let z = ap length (Y .noted ∙ last-none e) in absurd (omega arith))
+
+    pub yields-undoes : undoes k′ log used ≡ true
+    unfolding undoes
+    yields-undoes = rw yields-last (yields-undone k′ (lastNote log used) Y)
 
   -- "15: no state and call yield this end state and this note"
   pub undo-exactly : (k′ : Kernel) → Sized k′ → Rules k′ → Within k′ → Bytes log
@@ -219,10 +234,7 @@ module _ (log : List ℕ) (used : ℕ) where
   unfolding undoes
   undo-exactly k′ Z R W B = (
     λ h. let (a, b) = and-eq-true-iff (hasLast log used) (undoesNote k′ (lastNote log used)) .0 h in
-        let s = last-size a in
+        let s = last-sizes a in
         (backFrom k′ (lastNote log used), recordIn (lastNote log used), undone-yields k′ (lastNote log used) Z R W (last-bytes B) (omega arith) b),
-    λ y. let (k, bytes, Y) = y in
-        cases (hasLast log used) (λ e. rw e (yields-undone k′ (lastNote log used) Y))
-        (λ e. let (low, _) = note-sizes k bytes k′ (Y .sixteen) in
-        let z = ap length (Y .noted ∙ last-none e) in absurd (omega arith)),
+    λ y. yields-undoes (y .2),
   )

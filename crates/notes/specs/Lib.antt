@@ -4,6 +4,7 @@ pub mod Predicted
 pub mod Sections
 pub mod Notes
 pub mod Back
+pub mod Spans
 pub mod Within
 pub mod Framed
 pub mod Counts

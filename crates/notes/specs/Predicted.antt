@@ -63,9 +63,12 @@ predictedMessage c runner r =
     ∷ []
 
 -- The levels before a push and a pop; the runner as after.
-unfoldable pub predictedScheduler : Call → Kernel → List ℕ
-predictedScheduler c k′ =
+abbrev pub predictedLevels : Call → ℕ → ℕ → ℕ → List ℕ
+predictedLevels c unscheduled critical runner =
     schedulerRow
-    (cond (is c 8) (k′ .unscheduled - 1) (cond (is c 9) (k′ .unscheduled + 1) (k′ .unscheduled)))
-    (cond (is c 11) (k′ .critical - 1) (cond (is c 12) (k′ .critical + 1) (k′ .critical)))
-    (k′ .runner)
+    (cond (is c 8) (unscheduled - 1) (cond (is c 9) (unscheduled + 1) unscheduled))
+    (cond (is c 11) (critical - 1) (cond (is c 12) (critical + 1) critical))
+    runner
+
+unfoldable pub predictedScheduler : Call → Kernel → List ℕ
+predictedScheduler c k′ = predictedLevels c (k′ .unscheduled) (k′ .critical) (k′ .runner)

@@ -1,5 +1,5 @@
 -- A record as a row of eight numbers, and a row as a record.
-use Prim.Native.Nat.{ℕ}
+use Prim.Native.Nat.{ℕ, _%_}
 use mathlib.Core.Bool.{Bool, true, false, cond, not}
 use mathlib.Core.List.{List, [], _∷_}
 use lib.Dec.{eqb}
@@ -53,10 +53,12 @@ threadRow r place due =
 abbrev pub threadWidths : List ℕ
 threadWidths = 1 ∷ 1 ∷ 2 ∷ 4 ∷ 1 ∷ 1 ∷ 1 ∷ 1 ∷ []
 
+-- an object's id is a byte, whatever the row holds
 unfoldable pub conditionFrom : ℕ → ℕ → Condition
 conditionFrom code what =
     cond (eqb code 2) Asleep
-    (cond (eqb code 3) (ForSemaphore what) (cond (eqb code 4) (ForEvent what) (cond (eqb code 5) (ForMessage what) Ready)))
+    (cond (eqb code 3) (ForSemaphore (what % 256))
+    (cond (eqb code 4) (ForEvent (what % 256)) (cond (eqb code 5) (ForMessage what) Ready)))
 
 unfoldable pub wakeFrom : ℕ → Wake
 wakeFrom code =

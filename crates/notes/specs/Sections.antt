@@ -6,6 +6,10 @@ use lib.Dec.{eqb, ltb}
 use Rattle.queue.specs.Tables.{oldPlace}
 use Rattle.queue.specs.Queues.{items}
 use Rattle.coding.specs.Rows.{flagsOf, bodyOf}
+use Rattle.kernel.specs.declared.records.Thread.{Thread}
+use Rattle.kernel.specs.declared.records.Semaphore.{Semaphore}
+use Rattle.kernel.specs.declared.records.Event.{Event}
+use Rattle.kernel.specs.declared.records.Message.{Message}
 use Rattle.kernel.specs.declared.records.Kernel.{Kernel}
 use Rattle.kernel.specs.Records.{thread, semaphore, event, message}
 use Rattle.calls.specs.declared.call.Call.{Call}
@@ -23,25 +27,36 @@ entriesFrom touched entry i (suc n) = let r = entriesFrom touched entry (suc i) 
 abbrev pub flagged : List ℕ → List ℕ → List ℕ → List ℕ
 flagged widths old predicted = flagsOf old predicted ∷ bodyOf widths old predicted
 
--- a thread before: its id, its code, and what isn't as predicted of its record and its places
+-- a thread before: its id, its code, and what isn't as predicted of its record and its two places
+abbrev pub threadNoted : ℕ → Call → Thread → ℕ → ℕ → Thread → List ℕ
+threadNoted t c old place due new =
+    t
+    ∷ threadCode old
+    ∷ flagged threadWidths (threadRow old place due) (predictedThread c new (threadCode old))
+
 unfoldable pub threadEntry : Kernel → Call → Kernel → ℕ → List ℕ
 threadEntry k c k′ t =
-    t
-    ∷ threadCode (thread k t)
-    ∷ flagged threadWidths (threadRow (thread k t) (oldPlace t (items (k .places))) (oldPlace t (items (k .time))))
-    (predictedThread c (thread k′ t) (threadCode (thread k t)))
+    threadNoted t c (thread k t) (oldPlace t (items (k .places))) (oldPlace t (items (k .time))) (thread k′ t)
+
+abbrev pub semaphoreNoted : ℕ → Call → Semaphore → Semaphore → List ℕ
+semaphoreNoted i c old new = i ∷ flagged semaphoreWidths (semaphoreRow old) (predictedSemaphore c new)
 
 unfoldable pub semaphoreEntry : Kernel → Call → Kernel → ℕ → List ℕ
-semaphoreEntry k c k′ i = i ∷ flagged semaphoreWidths (semaphoreRow (semaphore k i)) (predictedSemaphore c (semaphore k′ i))
+semaphoreEntry k c k′ i = semaphoreNoted i c (semaphore k i) (semaphore k′ i)
+
+abbrev pub eventNoted : ℕ → Event → Event → List ℕ
+eventNoted i old new = i ∷ flagged eventWidths (eventRow old) (predictedEvent new)
 
 unfoldable pub eventEntry : Kernel → Call → Kernel → ℕ → List ℕ
-eventEntry k c k′ i = i ∷ flagged eventWidths (eventRow (event k i)) (predictedEvent (event k′ i))
+eventEntry k c k′ i = eventNoted i (event k i) (event k′ i)
+
+-- `runner` is who runs after the call
+abbrev pub messageNoted : ℕ → Call → ℕ → Message → ℕ → Message → List ℕ
+messageNoted m c runner old place new =
+    m ∷ flagged messageWidths (messageRow old place) (predictedMessage c runner new)
 
 unfoldable pub messageEntry : Kernel → Call → Kernel → ℕ → List ℕ
-messageEntry k c k′ m =
-    m
-    ∷ flagged messageWidths (messageRow (message k m) (oldPlace m (items (k .posted))))
-    (predictedMessage c (k′ .runner) (message k′ m))
+messageEntry k c k′ m = messageNoted m c (k′ .runner) (message k m) (oldPlace m (items (k .posted))) (message k′ m)
 
 unfoldable pub threadsSection : Kernel → Call → Kernel → List ℕ
 threadsSection k c k′ = entriesFrom (touchedThread k c k′) (threadEntry k c k′) 0 32

@@ -63,12 +63,18 @@ youngerSemaphore c r =
 abbrev pub movesInPlace : ℕ → Call → ℕ → Bool
 movesInPlace runner c t = (is c 6 && eqb t runner) || (isOneOf c (4 ∷ 5 ∷ []) && eqb t (c .a))
 
+-- `runner` is who ran before the call
+abbrev pub changedThread : ℕ → ℕ → Call → Thread → Thread → Bool
+changedThread t runner c old new = not (sameThread old (youngerThread c new)) || movesInPlace runner c t
+
+abbrev pub changedSemaphore : Call → Semaphore → Semaphore → Bool
+changedSemaphore c old new = not (sameSemaphore old (youngerSemaphore c new))
+
 unfoldable pub touchedThread : Kernel → Call → Kernel → ℕ → Bool
-touchedThread k c k′ t =
-    not (sameThread (thread k t) (youngerThread c (thread k′ t))) || movesInPlace (k .runner) c t
+touchedThread k c k′ t = changedThread t (k .runner) c (thread k t) (thread k′ t)
 
 unfoldable pub touchedSemaphore : Kernel → Call → Kernel → ℕ → Bool
-touchedSemaphore k c k′ i = not (sameSemaphore (semaphore k i) (youngerSemaphore c (semaphore k′ i)))
+touchedSemaphore k c k′ i = changedSemaphore c (semaphore k i) (semaphore k′ i)
 
 unfoldable pub touchedEvent : Kernel → Call → Kernel → ℕ → Bool
 touchedEvent k c k′ i = not (sameEvent (event k i) (event k′ i))

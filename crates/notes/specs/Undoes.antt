@@ -33,15 +33,16 @@ isDecoded (sections s) = true
 unfoldable pub levelsFit : Kernel → Bool
 levelsFit k = ltb (k .unscheduled) 256 && ltb (k .critical) 256
 
--- the state k, with the call in these bytes, yields k′ and the note
+-- the state k, with the call in these bytes run again, yields k′ and the note
 unfoldable pub yieldsAgain : Kernel → List ℕ → Kernel → List ℕ → Bool
 yieldsAgain k bytes k′ note =
+    let next = scheduled (effect k (callOf bytes)) in
     allOf
     (levelsFit k
     ∷ keepsRules k
     ∷ eqb (numberOf k (callOf bytes)) 0
-    ∷ sameKernel (scheduled (effect k (callOf bytes))) k′
-    ∷ sameRow (noteOf k bytes k′) note
+    ∷ sameKernel next k′
+    ∷ sameRow (noteOf k bytes next) note
     ∷ [])
 
 unfoldable pub undoesNote : Kernel → List ℕ → Bool

@@ -1,4 +1,2 @@
-// What the calls on semaphores, events and messages do.
-pub mod events;
-pub mod messages;
+// What the calls on semaphores do; the code of those on events and messages is in `signals` and `mail`.
 pub mod semaphores;

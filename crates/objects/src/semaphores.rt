@@ -7,6 +7,7 @@ use kernel::records::Condition;
 use kernel::records::Kernel;
 use kernel::records::Semaphore;
 use kernel::records::Wake;
+use kernel::records::no_semaphore;
 use seek::free;
 use seek::lines;
 use seek::records;
@@ -58,14 +59,7 @@ pub fn create_semaphore(k: Kernel, c: Call) -> Kernel
 pub fn destroy_semaphore(k: Kernel, c: Call) -> Kernel
     ensures { λ x. ⌜ x ≡ destroySemaphore k c ⌝ }
 {
-    let none = Semaphore {
-        live: false,
-        count: 0,
-        maximum: 0,
-        ticks: 0,
-        period: 0,
-    };
-    with_semaphore(k, c.a, none)
+    with_semaphore(k, c.a, no_semaphore())
 }
 
 pub fn make_periodic(k: Kernel, c: Call) -> Kernel
@@ -92,7 +86,7 @@ pub fn pend_semaphore(k: Kernel, c: Call) -> Kernel
     if 0 < r.count {
         return with_semaphore(k, c.a, with_count(r, r.count - 1));
     }
-    threads::threads::block(k, Condition::ForSemaphore(c.a), c.c)
+    living::block(k, Condition::ForSemaphore(c.a), c.c)
 }
 
 // One more, up to the maximum.
@@ -117,7 +111,7 @@ pub fn post(k: Kernel, i: u8) -> Kernel
         let r = records::semaphore_at(semaphores, i);
         return with_semaphore(k, i, raised(r));
     }
-    threads::threads::wake(k, first, Wake::Met)
+    living::wake(k, first, Wake::Met)
 }
 
 pub fn post_semaphore(k: Kernel, c: Call) -> Kernel

@@ -26,7 +26,7 @@ use Rattle.replay.specs.Promises.{RulesAreKept, RunnerIsAnswered, FirstR
 use Rattle.replay.proofs.RunnerStays.{effect-runner}
 
 -- a number that no entry has, and that isn't 0, isn't given
-never-given : (n : ℕ) → 0 < n → (l : List (ℕ × Bool)) → lacks n l ≡ true → firstThatApplies l ≡ n → ⊥
+pub never-given : (n : ℕ) → 0 < n → (l : List (ℕ × Bool)) → lacks n l ≡ true → firstThatApplies l ≡ n → ⊥
 never-given n b [] z e = omega arith
 never-given n b ((m, true) ∷ l) z e = lacks-head n (m, true) l z e
 never-given n b ((m, false) ∷ l) z e = never-given n b l (and-right (not (eqb m n)) (lacks n l) z) e
@@ -44,7 +44,7 @@ module _ (k : Kernel) (bytes : List ℕ) (h : keepsRules k ≡ true) (P : Steppe
       let n = numberOf k (callOf bytes) in
       cases (eqb n 0) (λ e. rw (h, e) (a (eqb-true n 0 e))) (λ e. rw (h, e) (r (eqb-false n 0 e)))
 
-number-is : (k : Kernel) (bytes : List ℕ) → keepsRules k ≡ true → called k bytes .answer .number ≡ numberOf k (callOf bytes)
+pub number-is : (k : Kernel) (bytes : List ℕ) → keepsRules k ≡ true → called k bytes .answer .number ≡ numberOf k (callOf bytes)
 number-is k bytes h = either k bytes h (λ s. s .answer .number ≡ numberOf k (callOf bytes)) (λ e. sym e) (λ _. refl)
 
 -- ---- Demand 1

@@ -1,4 +1,9 @@
 -- The promises kept, and the sample runs.
 pub mod Kept
 pub mod RunnerStays
+pub mod WithLogs
+pub mod LeadsBack
 pub mod SamplesHold
+pub mod Recording
+pub mod Parts
+pub mod Again

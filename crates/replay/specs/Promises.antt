@@ -1,10 +1,10 @@
 -- What the user asked, each demand as a named type over the definitions. The proofs beside this file have a line for each.
-use Prim.Native.Nat.{ℕ, _+_, _<_}
+use Prim.Native.Nat.{ℕ, _+_, _≤_, _<_}
 use mathlib.Core.Path.{_≡_}
-use mathlib.Core.Bool.{true, false}
-use mathlib.Core.List.{List}
+use mathlib.Core.Bool.{true, false, cond}
+use mathlib.Core.List.{List, []}
 use mathlib.Core.Logic.{_↔_}
-use lib.ListN.{getD}
+use lib.ListN.{length, getD}
 use Rattle.kernel.specs.declared.records.Kernel.{Kernel}
 use Rattle.kernel.specs.Runner.{firstReady}
 use Rattle.rules.specs.Rules.{Sized, Rules}
@@ -12,7 +12,14 @@ use Rattle.rules.specs.Tests.{keepsRules}
 use Rattle.calls.specs.Calls.{callOf}
 use Rattle.calls.specs.Refusals.{refusals}
 use Rattle.replay.specs.declared.step.Stepped.{Stepped}
+use Rattle.coding.specs.Logs.{room}
+use Rattle.notes.specs.Within.{Within}
+use Rattle.notes.specs.Counts.{mostBytes}
+use Rattle.notes.specs.Undo.{lastNote, Yields}
+use Rattle.replay.specs.declared.logs.Logged.{Logged}
 use Rattle.replay.specs.Steps.{answer, called}
+use Rattle.replay.specs.Logs.{logged, nextOf, noteFor, calledWith, logCalled, partCalled, undone}
+use Rattle.replay.specs.Runs.{AreRecords, trail, backTimes, stateAt, begun, run, undoneTimes, pointAt}
 
 -- ---- Demand 1: "Any sixteen bytes may arrive as a call, with any state. Each is answered."
 -- Number 14 exactly where the state breaks a state rule; it gives 255 for both, and the same state.
@@ -75,3 +82,69 @@ RunnerStaysInRegion =
 -- Two results that the contract allows are equal.
 unfoldable pub OneResult : Type 0
 OneResult = (k : Kernel) (bytes : List ℕ) (r s : Stepped) → r ≡ called k bytes → s ≡ called k bytes → r ≡ s
+
+-- ---- Demand 1 with a log: a call answers as it does without one, but for number 13.
+-- "13: the note is longer than the log's unused room", where no other number is given.
+unfoldable pub ThirteenExactly : Type 0
+ThirteenExactly =
+    (k : Kernel) (bytes log : List ℕ) (used : ℕ)
+    → (calledWith k bytes log used .answer .number ≡ 13)
+    ↔ ((called k bytes .answer .number ≡ 0) × (room log used (noteFor k bytes) ≡ false))
+
+-- Every other number as without a log.
+unfoldable pub AnsweredAlike : Type 0
+AnsweredAlike =
+    (k : Kernel) (bytes log : List ℕ) (used : ℕ) → (calledWith k bytes log used .answer .number ≡ 13 → ⊥)
+    → (calledWith k bytes log used .answer ≡ called k bytes .answer) × (calledWith k bytes log used .kernel ≡ called k bytes .kernel)
+
+-- "No refusal touches state or log": the state, the used length and every byte stay, and the part is empty.
+unfoldable pub RefusalLeavesLog : Type 0
+RefusalLeavesLog =
+    (k : Kernel) (bytes log : List ℕ) (used : ℕ) → (calledWith k bytes log used .answer .number ≡ 0 → ⊥)
+    → (calledWith k bytes log used .kernel ≡ k) × (calledWith k bytes log used .used ≡ used) × (logCalled k bytes log used ≡ log)
+    × (length (partCalled k bytes log used) ≡ 0)
+
+-- ---- Demand 3: "Undo accepts a last note exactly if some state and call yield this end state and this note."
+unfoldable pub UndoneExactly : Type 0
+UndoneExactly =
+    (k′ : Kernel) (log : List ℕ) (used : ℕ) → Sized k′ → Rules k′ → Within k′ → ((i : ℕ) → getD log i 0 < 256)
+    → (undone k′ log used .answer .number ≡ 0)
+    ↔ ((k : Kernel) × (bytes : List ℕ) × Yields k bytes k′ (lastNote log used))
+
+-- It then gives that state, its runner, value 255 and the length of log before the note.
+unfoldable pub UndoneIsThat : Type 0
+UndoneIsThat =
+    (k k′ : Kernel) (bytes log : List ℕ) (used : ℕ) → Sized k′ → Rules k′ → Yields k bytes k′ (lastNote log used)
+    → (undone k′ log used .answer ≡ answer 0 255 (k .runner)) × (undone k′ log used .kernel ≡ k)
+    × (undone k′ log used .used + length (lastNote log used) ≡ used)
+
+-- Else 15, or 14 where the state breaks a rule; the state and the used length stay.
+unfoldable pub UndoRefused : Type 0
+UndoRefused =
+    (k′ : Kernel) (log : List ℕ) (used : ℕ) → (undone k′ log used .answer .number ≡ 0 → ⊥)
+    → undone k′ log used ≡ cond (keepsRules k′) (logged (answer 15 255 (k′ .runner)) k′ used) (logged (answer 14 255 255) k′ used)
+
+-- "Each note stays within document 01's length formula."
+unfoldable pub NotesAreShort : Type 0
+NotesAreShort =
+    (k : Kernel) (bytes : List ℕ) → Sized k → Rules k → Within k → length bytes ≡ 16 → ((i : ℕ) → getD bytes i 0 < 256)
+    → called k bytes .answer .number ≡ 0
+    → length (noteFor k bytes) ≤ mostBytes k (nextOf k bytes)
+
+-- "From any state that keeps the state rules, after any list of calls (refused ones among them) with all notes kept: undoing the
+-- last k notes gives exactly the state before the last k accepted calls, for each k." Over lists of notes:
+unfoldable pub NotesLeadBack : Type 0
+NotesLeadBack =
+    (k : Kernel) (records : List (List ℕ)) (j : ℕ) → Sized k → Rules k → Within k → AreRecords records
+    → (let t = trail (record { kernel = k; kept = [] }) records in
+    backTimes j (t .kernel) (t .kept) ≡ stateAt j (t .kernel) (t .kept))
+
+-- and over the log's bytes: each of the undos answers 0, value 255 and the runner then, and gives the length of log before its call.
+unfoldable pub LogLeadsBack : Type 0
+LogLeadsBack =
+    (k : Kernel) (log : List ℕ) (used : ℕ) (records : List (List ℕ)) (j : ℕ)
+    → Sized k → Rules k → Within k → ((i : ℕ) → getD log i 0 < 256) → AreRecords records
+    → j ≤ length (run (begun k log used) records .earlier)
+    → (let r = run (begun k log used) records in
+    undoneTimes j (r .point .kernel) (r .log) (r .point .used)
+    ≡ logged (answer 0 255 (pointAt r j .kernel .runner)) (pointAt r j .kernel) (pointAt r j .used))

@@ -1,8 +1,10 @@
--- Document 01's sample runs marked *, in one table: the calls, the answers, and what then holds.
+-- Document 01's sample runs marked *, in one table: the calls, the answers, what then holds, and what holds once the last call is undone.
 use Prim.Native.Nat.{ℕ}
 use mathlib.Core.Bool.{Bool, true, false, _&&_}
-use mathlib.Core.List.{List, [], _∷_}
+use mathlib.Core.List.{List, [], _∷_, _++_}
 use lib.Dec.{eqb}
+use lib.ListN.{replicate}
+use Rattle.coding.specs.Bytes.{le}
 use Rattle.queue.specs.Lists.{isEmpty}
 use Rattle.kernel.specs.declared.records.Wake.{Wake}
 use Rattle.kernel.specs.declared.records.Kernel.{Kernel}
@@ -13,6 +15,7 @@ use Rattle.threads.specs.Parts.{withUptime}
 use Rattle.replay.specs.declared.step.Answer.{Answer}
 use Rattle.replay.specs.declared.step.Stepped.{Stepped}
 use Rattle.replay.specs.Steps.{answer, step}
+use Rattle.replay.specs.Logs.{recorded, logAfter, undone}
 
 abbrev pub sameAnswer : Answer → Answer → Bool
 sameAnswer x y = eqb (x .number) (y .number) && (eqb (x .value) (y .value) && eqb (x .runner) (y .runner))
@@ -27,14 +30,31 @@ runs k (c ∷ cs) (x ∷ xs) then = let r = runs (step k c .kernel) cs xs then i
 abbrev pub call : ℕ → ℕ → ℕ → ℕ → ℕ → Call
 call kind a b c d = record { kind = kind; a = a; b = b; c = c; d = d; e = 0 }
 
+-- its sixteen bytes
+abbrev pub bytesOf : Call → List ℕ
+bytesOf c = c .kind ∷ c .a ∷ (le 2 (c .b) ++ (le 4 (c .c) ++ (le 4 (c .d) ++ le 4 (c .e))))
+
+-- a log without a note
+abbrev pub empty : List ℕ
+empty = replicate 128 0
+
+-- the last call is noted in an empty log and undone: the state that the undo gives
+abbrev pub undoneLast : Kernel → List Call → Kernel
+undoneLast k [] = k
+undoneLast k (c ∷ []) =
+    let r = recorded k (bytesOf c) empty 0 in
+    undone (r .kernel) (logAfter k (bytesOf c) empty 0) (r .used) .kernel
+undoneLast k (c ∷ d ∷ cs) = undoneLast (step k c .kernel) (d ∷ cs)
+
 pub record Sample : Type 0 where
   pub start : Kernel
   pub calls : List Call
   pub answers : List Answer
   pub then : Kernel → Bool
+  pub back : Kernel → Bool
 
 abbrev pub holds : Sample → Bool
-holds s = runs (s .start) (s .calls) (s .answers) (s .then)
+holds s = runs (s .start) (s .calls) (s .answers) (s .then) && s .back (undoneLast (s .start) (s .calls))
 
 abbrev pub all : List Sample → Bool
 all [] = true
@@ -69,6 +89,7 @@ samples =
       calls = call 6 0 0 0 0 ∷ tick ∷ [];
       answers = answer 2 255 255 ∷ answer 0 255 255 ∷ [];
       then = anything;
+      back = anything;
     }
     -- Priority 30 is accepted, 0 and 31 give 5.
     ∷ record {
@@ -76,6 +97,7 @@ samples =
       calls = create 30 ∷ create 0 ∷ create 31 ∷ [];
       answers = answer 0 0 0 ∷ answer 5 255 0 ∷ answer 5 255 0 ∷ [];
       then = anything;
+      back = anything;
     }
     -- Ids 0 (priority 5), 1 (3), 2 (5): thread 1 sleeps 2, thread 0 runs; it yields, 2 runs; two ticks later 1 runs.
     ∷ record {
@@ -91,6 +113,7 @@ samples =
           ∷ answer 0 255 1
           ∷ [];
       then = anything;
+      back = anything;
     }
     -- Pend on count 0, timeout 1, then a tick: timed out, and the queue is empty.
     ∷ record {
@@ -98,6 +121,7 @@ samples =
       calls = semaphoreOf 0 1 ∷ create 5 ∷ pend 1 ∷ tick ∷ [];
       answers = answer 0 0 255 ∷ answer 0 0 0 ∷ answer 0 255 255 ∷ answer 0 255 0 ∷ [];
       then = λ k. timedOut (thread k 0 .wake) && (isEmpty (semaphoreQueue k 0) && eqb (semaphore k 0 .count) 0);
+      back = anything;
     }
     -- A post then makes the count 1.
     ∷ record {
@@ -105,6 +129,7 @@ samples =
       calls = semaphoreOf 0 1 ∷ create 5 ∷ pend 1 ∷ tick ∷ call 19 0 0 0 0 ∷ [];
       answers = answer 0 0 255 ∷ answer 0 0 0 ∷ answer 0 255 255 ∷ answer 0 255 0 ∷ answer 0 255 0 ∷ [];
       then = λ k. eqb (semaphore k 0 .count) 1;
+      back = anything;
     }
     -- Count 1, maximum 1: a post is accepted and the count stays 1.
     ∷ record {
@@ -112,6 +137,7 @@ samples =
       calls = semaphoreOf 1 1 ∷ create 5 ∷ call 19 0 0 0 0 ∷ [];
       answers = answer 0 0 255 ∷ answer 0 0 0 ∷ answer 0 255 0 ∷ [];
       then = λ k. eqb (semaphore k 0 .count) 1;
+      back = anything;
     }
     -- Pend on count 0 inside an unscheduled region gives 6; on count 1 it passes.
     ∷ record {
@@ -120,6 +146,7 @@ samples =
       answers =
           answer 0 0 255 ∷ answer 0 0 0 ∷ answer 0 255 0 ∷ answer 6 255 0 ∷ answer 0 255 0 ∷ answer 0 255 0 ∷ [];
       then = λ k. eqb (semaphore k 0 .count) 0;
+      back = anything;
     }
     -- Tick in a critical region: 3.
     ∷ record {
@@ -127,6 +154,7 @@ samples =
       calls = create 5 ∷ call 11 0 0 0 0 ∷ tick ∷ [];
       answers = answer 0 0 0 ∷ answer 0 255 0 ∷ answer 3 255 0 ∷ [];
       then = λ k. eqb (k .uptime) 0;
+      back = anything;
     }
     -- In an unscheduled one: accepted.
     ∷ record {
@@ -134,12 +162,14 @@ samples =
       calls = create 5 ∷ call 8 0 0 0 0 ∷ tick ∷ [];
       answers = answer 0 0 0 ∷ answer 0 255 0 ∷ answer 0 255 0 ∷ [];
       then = λ k. eqb (k .uptime) 1;
+      back = anything;
     }
-    -- Uptime 4,294,967,295, then a tick: 0. (The undo comes with the notes.)
+    -- Uptime 4,294,967,295, then a tick: 0; undo brings it back.
     ∷ record {
       start = withUptime 4294967295 fresh;
       calls = tick ∷ [];
       answers = answer 0 255 255 ∷ [];
       then = λ k. eqb (k .uptime) 0;
+      back = λ k. eqb (k .uptime) 4294967295;
     }
     ∷ []

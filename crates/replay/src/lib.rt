@@ -1,2 +1,4 @@
-// The public face: a call on a state.
+// The public face: a call on a state, with or without a log, and the undo.
+pub mod logs;
 pub mod step;
+pub mod undos;

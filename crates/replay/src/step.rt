@@ -3,10 +3,8 @@ ghost use mathlib.Core.Path.{_≡_};
 ghost use Rattle.replay.specs.Steps.{step, called};
 use calls::call;
 use calls::call::Call;
-use calls::refusals;
-use effects::effect;
 use kernel::records::Kernel;
-use threads::parts;
+use kernel::runner;
 
 // What comes back of a call: a number, a value, and who runs (255 for none).
 pub struct Answer {
@@ -25,7 +23,7 @@ pub struct Stepped {
 pub fn step(k: Kernel, c: Call) -> Stepped
     ensures { λ r. ⌜ r ≡ step k c ⌝ }
 {
-    let number = refusals::number_of(k, c);
+    let number = refusing::number_of(k, c);
     if number != 0 {
         return Stepped {
             answer: Answer {
@@ -36,13 +34,19 @@ pub fn step(k: Kernel, c: Call) -> Stepped
             kernel: k,
         };
     }
-    let value = effect::value_of(k, c);
-    let next = parts::scheduled(effect::effect(k, c));
+    let value = acting::value_of(k, c);
+    let mut next = acting::effect(k, c);
+    let q = next.places;
+    let first = queue::first(q);
+    let threads = next.threads;
+    let r = seek::records::thread_at(threads, first as u16);
+    let runner = runner::runner_of(next.unscheduled, next.critical, next.runner, first, r);
+    next.runner = runner;
     Stepped {
         answer: Answer {
             number: 0,
             value: value,
-            runner: next.runner,
+            runner: runner,
         },
         kernel: next,
     }
@@ -52,7 +56,7 @@ pub fn step(k: Kernel, c: Call) -> Stepped
 pub fn called(k: Kernel, bytes: [u8; 16]) -> Stepped
     ensures { λ r. ⌜ r ≡ called k bytes ⌝ }
 {
-    if !rules::keeps_rules(k) {
+    if !tested::keeps_rules(k) {
         return Stepped {
             answer: Answer {
                 number: 14,

@@ -1,4 +1,3 @@
-pub mod Loops
 pub mod OfRecords
 pub mod OfTables
 pub mod Homes

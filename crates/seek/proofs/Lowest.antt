@@ -1,7 +1,7 @@
 -- The lowest free id: a loop that looks for it, and what it says of the records.
-use Prim.Native.Nat.{ℕ, zero, suc, _+_, _≤_, _<_}
-use mathlib.Core.Path.{_≡_, refl, _∙_}
-use mathlib.Core.Bool.{Bool, true, false}
+use Prim.Native.Nat.{ℕ, zero, suc, _+_, _-_, _≤_, _<_}
+use mathlib.Core.Path.{_≡_, refl, ap, _∙_}
+use mathlib.Core.Bool.{Bool, true, false, cond}
 use mathlib.Core.List.{List, [], _∷_}
 use native.Mathlib.Numerals.{add-one}
 use native.Mathlib.Omega.{arith}
@@ -14,6 +14,10 @@ use Rattle.seek.specs.Free.{lowestFree}
 abbrev pub Passed : {A : Type 0} → (A → Bool) → List A → ℕ → ℕ → Type 0
 Passed live l n i = (length l ≡ n) × (i ≤ n) × (lowestFree live 0 l ≡ lowestFree live i (drop i l))
 
+-- a bound of the loop: all n, or all but the last
+pub within : (b : Bool) {k n : ℕ} → k ≡ cond b n (n - 1) → k ≤ n
+within b {k} {n} e = cases b (λ t. let z : k ≡ n = e ∙ rw t in omega arith) (λ f. let z : k ≡ n - 1 = e ∙ rw f in omega arith)
+
 module _ {A : Type 0} (live : A → Bool) (l : List A) {n : ℕ} (i : ℕ) (w : Passed live l n i) where
   module _ (d : A) (h : i < n) where
     -- the record at i is free
@@ -23,6 +27,13 @@ module _ {A : Type 0} (live : A → Bool) (l : List A) {n : ℕ} (i : ℕ) (w : 
     -- or it is live, and the search goes on
     pub free-next : live (getD l i d) ≡ true → Passed live l n (i + 1)
     free-next e = (w .0, omega arith, w .2 ∙ rw (drop-cons l i d (omega arith), e, add-one))
+
+  -- only the last record is left, and it is free
+  pub free-last : (d : A) (k : ℕ) → k ≡ cond (live (getD l (n - 1) d)) n (n - 1) → i ≡ k → i < n → i ≡ lowestFree live 0 l
+  free-last d k e s h =
+      cases (live (getD l (n - 1) d))
+      (λ t. let z : k ≡ n = e ∙ rw t in absurd (omega arith))
+      (λ f. let z : k ≡ n - 1 = e ∙ rw f in let j : i ≡ n - 1 = s ∙ z in free-here d h (ap (λ (m : ℕ). live (getD l m d)) j ∙ f))
 
   -- every record is live
   pub free-end : n ≤ i → 255 ≡ lowestFree live 0 l

@@ -2,12 +2,13 @@
 ghost use mathlib.Core.Path.{_≡_};
 ghost use lib.ListN.{getD};
 ghost use Rattle.kernel.specs.Records.{noThread, noSemaphore, noEvent, noMessage};
-use kernel::records::Condition;
 use kernel::records::Event;
 use kernel::records::Message;
 use kernel::records::Semaphore;
 use kernel::records::Thread;
-use kernel::records::Wake;
+use kernel::records::no_message;
+use kernel::records::no_semaphore;
+use kernel::records::no_thread;
 
 pub fn thread_at(threads: [Thread; 32], t: u16) -> Thread
     ensures { λ r. ⌜ r ≡ getD threads t noThread ⌝ }
@@ -16,15 +17,7 @@ pub fn thread_at(threads: [Thread; 32], t: u16) -> Thread
         let i = t as usize;
         return threads[i];
     }
-    Thread {
-        live: false,
-        priority: 0,
-        first: 0,
-        condition: Condition::Ready,
-        ticks: 0,
-        wake: Wake::None,
-        reply: 0,
-    }
+    no_thread()
 }
 
 pub fn semaphore_at(semaphores: [Semaphore; 16], i: u8) -> Semaphore
@@ -34,13 +27,7 @@ pub fn semaphore_at(semaphores: [Semaphore; 16], i: u8) -> Semaphore
         let j = i as usize;
         return semaphores[j];
     }
-    Semaphore {
-        live: false,
-        count: 0,
-        maximum: 0,
-        ticks: 0,
-        period: 0,
-    }
+    no_semaphore()
 }
 
 pub fn event_at(events: [Event; 8], i: u8) -> Event
@@ -64,13 +51,5 @@ pub fn message_at(messages: [Message; 64], m: u8) -> Message
         let i = m as usize;
         return messages[i];
     }
-    Message {
-        live: false,
-        owner: 0,
-        sender: 0,
-        kind: 0,
-        size: 0,
-        address: 0,
-        channel: 0,
-    }
+    no_message()
 }

@@ -1,4 +1,2 @@
-// The moves over the whole state, and what the calls on threads and regions do.
+// The moves over the whole state, and the scheduler; the calls' code is in `living` and `levels`.
 pub mod parts;
-pub mod regions;
-pub mod threads;

@@ -2,8 +2,6 @@
 ghost use mathlib.Core.Path.{_≡_};
 ghost use Rattle.threads.specs.Parts.{withThreads, place, file, scheduled};
 ghost use Rattle.kernel.specs.Standing.{threadsOf};
-use kernel::moves;
-use kernel::moves::Posts;
 use kernel::moves::Threads;
 use kernel::records::Kernel;
 use kernel::records::Message;
@@ -41,28 +39,36 @@ pub fn with_threads(k: Kernel, p: Threads) -> Kernel
 pub fn placed(k: Kernel, id: u8, r: Thread) -> Kernel
     ensures { λ x. ⌜ x ≡ place id r k ⌝ }
 {
-    with_threads(k, moves::relocated(threads_of(k), id, r))
+    if 32 <= id {
+        return k;
+    }
+    let i = id as usize;
+    let records = k.threads;
+    let places = k.places;
+    let time = k.time;
+    let old = records[i];
+    let mut next = k;
+    next.threads[i] = r;
+    next.places = moving::rejoined_places(records, places, id, r);
+    if old.ticks != r.ticks {
+        next.time = moving::rejoined_time(records, time, id, r);
+    }
+    next
 }
 
 // Message `id` gets the record r and takes its place.
 pub fn filed(k: Kernel, id: u8, r: Message) -> Kernel
     ensures { λ x. ⌜ x ≡ file id r k ⌝ }
 {
+    if 64 <= id {
+        return k;
+    }
+    let i = id as usize;
     let records = k.messages;
     let posted = k.posted;
-    let p = moves::reposted(
-        Posts {
-            records: records,
-            posted: posted,
-        },
-        id,
-        r,
-    );
-    let messages = p.records;
-    let queue = p.posted;
     let mut next = k;
-    next.messages = messages;
-    next.posted = queue;
+    next.messages[i] = r;
+    next.posted = moving::rejoined_posts(records, posted, id, r);
     next
 }
 

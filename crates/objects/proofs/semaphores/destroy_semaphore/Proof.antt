@@ -4,12 +4,15 @@ use Rattle.objects.specs.Semaphores.{destroySemaphore}
 use Rattle.objects.proofs.semaphores.destroy_semaphore.Statement.{statement}
 use Rattle.objects.proofs.semaphores.destroy_semaphore.Tie as tie
 
+no-semaphore-requires : tie.Need-no-semaphore-requires
+no-semaphore-requires c κs = search needs
+
 with-semaphore-requires : tie.Need-with-semaphore-requires
 with-semaphore-requires c κs = search needs
 
 returns : tie.Need-returns
 unfolding destroySemaphore
-returns c = c .with-semaphore .ensures
+returns c = rw (c .with-semaphore .ensures, c .before .no-semaphore .ensures)
 
 pub destroy-semaphore-spec : {M : Type 1} → statement M
-destroy-semaphore-spec = tie.close (tie.spec with-semaphore-requires returns)
+destroy-semaphore-spec = tie.close (tie.spec no-semaphore-requires with-semaphore-requires returns)

@@ -1,5 +1,5 @@
 -- `seek::records::message_at` meets its contract, as `thread_at` does.
-use mathlib.Core.Path.{_≡_, sym}
+use mathlib.Core.Path.{_≡_, sym, _∙_}
 use lib.ListN.{length}
 use borrow.Author.Needs.{needs}
 use Rattle.kernel.specs.Records.{noMessage}
@@ -16,11 +16,14 @@ array-copy-out-result c = search needs
 returns : tie.Need-returns
 returns c = search needs
 
+no-message-requires : tie.Need-no-message-requires
+no-message-requires c κs = search needs
+
 returns-2 : tie.Need-returns-2
 returns-2 c =
-    let a = c .before .args in
+    let a = c .before .before .args in
     let e : length (a .t1) ≡ 64 = search needs in
-    sym (past-end (a .t1) noMessage e (c .if1 .left))
+    c .no-message .ensures ∙ sym (past-end (a .t1) noMessage e (c .before .if1 .left))
 
 pub message-at-spec : {M : Type 1} → statement M
-message-at-spec = tie.close (tie.spec mul-result array-copy-out-result returns returns-2)
+message-at-spec = tie.close (tie.spec mul-result array-copy-out-result returns no-message-requires returns-2)

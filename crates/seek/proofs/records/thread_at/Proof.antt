@@ -1,5 +1,5 @@
--- `seek::records::thread_at` meets its contract: an id of a record reads it, and past the last the default is what the code writes.
-use mathlib.Core.Path.{_≡_, sym}
+-- `seek::records::thread_at` meets its contract: an id of a record reads it, and past the last the default is the record that isn't live.
+use mathlib.Core.Path.{_≡_, sym, _∙_}
 use lib.ListN.{length}
 use borrow.Author.Needs.{needs}
 use Rattle.kernel.specs.Records.{noThread}
@@ -16,11 +16,14 @@ array-copy-out-result c = search needs
 returns : tie.Need-returns
 returns c = search needs
 
+no-thread-requires : tie.Need-no-thread-requires
+no-thread-requires c κs = search needs
+
 returns-2 : tie.Need-returns-2
 returns-2 c =
-    let a = c .before .args in
+    let a = c .before .before .args in
     let e : length (a .t1) ≡ 32 = search needs in
-    sym (past-end (a .t1) noThread e (c .if1 .left))
+    c .no-thread .ensures ∙ sym (past-end (a .t1) noThread e (c .before .if1 .left))
 
 pub thread-at-spec : {M : Type 1} → statement M
-thread-at-spec = tie.close (tie.spec mul-result array-copy-out-result returns returns-2)
+thread-at-spec = tie.close (tie.spec mul-result array-copy-out-result returns no-thread-requires returns-2)

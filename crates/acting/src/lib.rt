@@ -1,0 +1,74 @@
+// What a call does, by its kind, and the value of its answer.
+ghost use mathlib.Core.Path.{_≡_};
+ghost use Rattle.effects.specs.Effects.{effect, valueOf};
+use calls::call::Call;
+use kernel::records::Kernel;
+use objects::semaphores;
+use seek::free;
+use seek::lines;
+
+pub fn effect(k: Kernel, c: Call) -> Kernel
+    ensures { λ r. ⌜ r ≡ effect k c ⌝ }
+{
+    let kind = c.kind;
+    match kind {
+        1 => ticking::tick(k, c),
+        2 => living::create_thread(k, c),
+        3 => living::destroy_thread(k, c),
+        4 => living::set_priority(k, c),
+        5 => living::reset_priority(k, c),
+        6 => living::yielded(k, c),
+        7 => living::sleep(k, c),
+        8 => levels::push_unscheduled(k, c),
+        9 => levels::pop_unscheduled(k, c),
+        10 => levels::pop_all_unscheduled(k, c),
+        11 => levels::push_critical(k, c),
+        12 => levels::pop_critical(k, c),
+        13 => levels::pop_all_critical(k, c),
+        14 => semaphores::create_semaphore(k, c),
+        15 => semaphores::destroy_semaphore(k, c),
+        16 => semaphores::make_periodic(k, c),
+        17 => semaphores::remove_periodic(k, c),
+        18 => semaphores::pend_semaphore(k, c),
+        19 => semaphores::post_semaphore(k, c),
+        20 => signals::load_event(k, c),
+        21 => signals::pend_event(k, c),
+        22 => signals::set_bit(k, c),
+        23 => signals::clear_bit(k, c),
+        24 => mail::create_message(k, c),
+        25 => mail::destroy_message(k, c),
+        26 => mail::post_message(k, c),
+        27 => mail::pend_message(k, c),
+        28 => semaphores::post_semaphore(k, c),
+        29 => signals::set_bit(k, c),
+        30 => signals::clear_bit(k, c),
+        _ => k,
+    }
+}
+
+// The created id, or the message received at once, else 255.
+pub fn value_of(k: Kernel, c: Call) -> u8
+    ensures { λ r. ⌜ r ≡ valueOf k c ⌝ }
+{
+    let kind = c.kind;
+    match kind {
+        2 => {
+            let threads = k.threads;
+            free::free_thread(threads)
+        }
+        14 => {
+            let semaphores = k.semaphores;
+            free::free_semaphore(semaphores)
+        }
+        24 => {
+            let messages = k.messages;
+            free::free_message(messages)
+        }
+        27 => {
+            let messages = k.messages;
+            let posted = k.posted;
+            lines::next_message(messages, posted, k.runner, c.b)
+        }
+        _ => 255,
+    }
+}

@@ -1,0 +1,90 @@
+-- `noting::note::put_thread_part` meets its contract: the part is written to a scratch array that is long enough, and then behind its length.
+use Rattle.notes.specs.Sections.{entriesFrom}
+use Rattle.notes.specs.Spans.{threadSpan}
+use Rattle.writing.specs.ThreadEntries.{isChanged, entryOf}
+use Rattle.noting.specs.Parts.{spanOfThreads, threadPart}
+use Rattle.noting.proofs.Sizes.{composed, threads-short}
+use Prim.Native.Nat.{_≤_}
+use mathlib.Core.Path.{_≡_, ap, sym, _∙_}
+use native.Mathlib.Omega.{arith}
+use lib.ListN.{length, take, replicate, length-replicate}
+use lib.Seq.{length-take-le}
+use Rattle.coding.specs.Bytes.{le}
+use Rattle.coding.specs.Pens.{pen, puts}
+use borrow.Author.Needs.{needs}
+use Rattle.noting.proofs.note.put_thread_part.Statement.{statement}
+use Rattle.noting.proofs.note.put_thread_part.Tie as tie
+
+cast-first-of-line : tie.Need-cast-first-of-line
+cast-first-of-line c = search needs
+
+add-first-of-line : tie.Need-add-first-of-line
+add-first-of-line c = search needs
+
+first-of-line-requires : tie.Need-first-of-line-requires
+first-of-line-requires c κs = search needs
+
+thread-span-requires : tie.Need-thread-span-requires
+thread-span-requires c κs = search needs
+
+put-number-requires : tie.Need-put-number-requires
+put-number-requires c κs = search needs
+
+same-length : tie.Need-same-length
+same-length c = search needs
+
+returns : tie.Need-returns
+unfolding le
+returns c =
+    let a = c .before .before .before .before .before .before .before .before .before .before .before .before .args in
+    let z : spanOfThreads (a .c) (a .runner) (a .old) (a .value) .count ≡ 0 = sym (ap (λ x. x .count) (c .before .before .before .before .before .before .thread-span .ensures ∙ ap (threadSpan (a .c) (a .runner) (a .value)) (c .before .before .before .before .before .before .before .first-of-line .ensures))) ∙ c .before .before .before .before .if1 .taken in
+    rw z (c .before .before .put-number .ensures)
+
+slice-aggregate-put-threads : tie.Need-slice-aggregate-put-threads
+slice-aggregate-put-threads c = search needs
+
+put-threads-requires : tie.Need-put-threads-requires
+put-threads-requires c κs = search needs
+
+-- what the scratch array holds is the part
+written : (c : tie.After-put-threads) → let a = c .before .before .before .before .before .before .before .before .before .before .args in (c .put-threads .result ≤ length (c .put-threads .last .0)) × (take (c .put-threads .result) (c .put-threads .last .0) ≡ threadPart (a .c) (a .runner) (a .old) (a .new) (a .value))
+written c =
+    let a = c .before .before .before .before .before .before .before .before .before .before .args in
+    let e : pen (c .put-threads .last .0) (c .put-threads .result) ≡ puts (pen (replicate 1100 0) 0) (threadPart (a .c) (a .runner) (a .old) (a .new) (a .value)) =
+    c .put-threads .ensures ∙ ap (λ x. puts (pen (replicate 1100 0) 0) (entriesFrom (isChanged (a .c) (a .runner) (a .old) (a .new)) (entryOf (a .c) (a .old) (a .new)) (x .first) (x .count))) (c .before .before .before .before .thread-span .ensures ∙ ap (threadSpan (a .c) (a .runner) (a .value)) (c .before .before .before .before .before .first-of-line .ensures)) in
+    let w = composed (replicate 1100 0) _ _ _ e (rw length-replicate (omega (arith, threads-short (a .c) (a .runner) (a .old) (a .new) (a .value)))) in
+    (w .0, w .1)
+
+array-share-prefix-scratch : tie.Need-array-share-prefix-scratch
+array-share-prefix-scratch c = written (c .before .before) .0
+
+slice-aggregate-put-section : tie.Need-slice-aggregate-put-section
+slice-aggregate-put-section c = sym (length-take-le _ _ (written (c .before .before .before) .0))
+
+put-section-requires : tie.Need-put-section-requires
+put-section-requires c κs = search needs
+
+same-length-2 : tie.Need-same-length-2
+same-length-2 c = search needs
+
+returns-2 : tie.Need-returns-2
+returns-2 c = rw (← written (c .before .before .before .before .before .before) .1) (c .before .before .put-section .ensures)
+
+pub put-thread-part-spec : {M : Type 1} → statement M
+put-thread-part-spec =
+    tie.close
+    (tie.spec
+    cast-first-of-line
+    add-first-of-line
+    first-of-line-requires
+    thread-span-requires
+    put-number-requires
+    same-length
+    returns
+    slice-aggregate-put-threads
+    put-threads-requires
+    array-share-prefix-scratch
+    slice-aggregate-put-section
+    put-section-requires
+    same-length-2
+    returns-2)

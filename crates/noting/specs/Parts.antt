@@ -1,0 +1,45 @@
+-- The parts of a note, over the parts of the two states that they speak of.
+use Prim.Native.Nat.{ℕ, _+_}
+use mathlib.Core.Bool.{cond}
+use mathlib.Core.List.{List, [], _∷_, _++_}
+use lib.Dec.{eqb}
+use Rattle.kernel.specs.declared.records.Thread.{Thread}
+use Rattle.kernel.specs.declared.records.Semaphore.{Semaphore}
+use Rattle.kernel.specs.declared.records.Event.{Event}
+use Rattle.kernel.specs.declared.records.Message.{Message}
+use Rattle.kernel.specs.declared.records.Kernel.{Kernel}
+use Rattle.kernel.specs.declared.moves.Threads.{Threads}
+use Rattle.kernel.specs.declared.moves.Posts.{Posts}
+use Rattle.seek.specs.Lines.{firstOfLine}
+use Rattle.calls.specs.declared.call.Call.{Call}
+use Rattle.notes.specs.Sections.{entriesFrom}
+use Rattle.notes.specs.Spans.{Span, threadSpan, semaphoreSpan, eventSpan, messageSpan}
+use Rattle.writing.specs.declared.scheduler_notes.Levels.{Levels}
+use Rattle.writing.specs.Tables.{semaphoreEntries, eventEntries, messageEntries}
+use Rattle.writing.specs.ThreadEntries.{isChanged, entryOf}
+
+abbrev pub levelsOf : Kernel → Levels
+levelsOf k = record { unscheduled = k .unscheduled; critical = k .critical; runner = k .runner }
+
+abbrev pub spanOfThreads : Call → ℕ → Threads → ℕ → Span
+spanOfThreads c runner old value = threadSpan c runner value (firstOfLine (old .records) (old .places) (256 + c .a))
+
+abbrev pub threadPart : Call → ℕ → Threads → List Thread → ℕ → List ℕ
+threadPart c runner old new value =
+    let s = spanOfThreads c runner old value in
+    entriesFrom (isChanged c runner old new) (entryOf c old new) (s .first) (s .count)
+
+abbrev pub semaphorePart : Call → List Semaphore → List Semaphore → ℕ → List ℕ
+semaphorePart c old new value =
+    let s = semaphoreSpan c value in
+    semaphoreEntries c old new (s .first) (s .count)
+
+abbrev pub eventPart : Call → ℕ → ℕ → List Event → List Event → List ℕ
+eventPart c bits after old new =
+    let s = eventSpan c in
+    cond (eqb bits after) [] (8 ∷ []) ++ eventEntries old new (s .first) (s .count)
+
+abbrev pub messagePart : Call → ℕ → Posts → List Message → ℕ → List ℕ
+messagePart c runner old new value =
+    let s = messageSpan c value in
+    messageEntries c runner old new (s .first) (s .count)

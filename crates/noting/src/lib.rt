@@ -1,0 +1,2 @@
+// The whole note of a call.
+pub mod note;

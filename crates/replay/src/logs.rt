@@ -1,0 +1,77 @@
+// A call with a lent log: its note is written behind the used part, or nothing is.
+ghost use mathlib.Core.Path.{_≡_};
+ghost use Prim.Native.Nat.{_+_, _<_};
+ghost use lib.ListN.{length};
+ghost use denote.Ref.{ptr};
+ghost use Rattle.replay.specs.Steps.{answer};
+ghost use Rattle.replay.specs.Logs.{logged, recorded, logAfter, calledWith, logCalled, partCalled};
+use crate::step;
+use crate::step::Answer;
+use calls::call;
+use kernel::records::Kernel;
+use noting::note;
+
+// The answer, the next state (an undo: the earlier one), and how much of the log is used then.
+pub struct Logged {
+    pub answer: Answer,
+    pub kernel: Kernel,
+    pub used: usize,
+}
+
+// A refusal: the state and the used length stay.
+pub fn refused(number: u8, runner: u8, k: Kernel, used: usize) -> Logged
+    ensures { λ r. ⌜ r ≡ logged (answer number 255 runner) k used ⌝ }
+{
+    Logged {
+        answer: Answer {
+            number: number,
+            value: 255,
+            runner: runner,
+        },
+        kernel: k,
+        used: used,
+    }
+}
+
+// The call on a state that keeps its rules: a run that starts from a tested state needs no further test.
+pub fn recorded(k: Kernel, bytes: [u8; 16], log: &mut [u8], used: usize) -> Logged
+    ensures { λ r. ⌜ (r ≡ recorded k bytes (now (log .entry)) used) × (now (log .exit) ≡ logAfter k bytes (now (log .entry)) used) ⌝ }
+{
+    let next = step::step(k, call::call_of(bytes));
+    if next.answer.number != 0 {
+        return refused(next.answer.number, k.runner, k, used);
+    }
+    let answer = next.answer;
+    let kernel = next.kernel;
+    let end = note::write_note(log, used, k, bytes, kernel, answer.value);
+    if end == used {
+        return refused(13, k.runner, k, used);
+    }
+    Logged {
+        answer: answer,
+        kernel: kernel,
+        used: end,
+    }
+}
+
+// Sixteen bytes on any state whatever, with any log.
+pub fn called(k: Kernel, bytes: [u8; 16], log: &mut [u8], used: usize) -> Logged
+    ensures { λ r. ⌜ (r ≡ calledWith k bytes (now (log .entry)) used) × (now (log .exit) ≡ logCalled k bytes (now (log .entry)) used) ⌝ }
+{
+    if !tested::keeps_rules(k) {
+        return refused(14, 255, k, used);
+    }
+    recorded(k, bytes, log, used)
+}
+
+// The same, and the part of the log that was written, which begins at `used`; on a refusal an empty part.
+pub fn append<'a>(k: Kernel, bytes: [u8; 16], log: &'a mut [u8], used: usize) -> &'a mut [u8]
+    ensures { λ r. ⌜ now r ≡ partCalled k bytes (now (log .entry)) used ⌝ }
+    ensures { λ r. ⌜ (0 < length (now r) → ptr r ≡ (ptr (log .entry) .0, used + ptr (log .entry) .1)) ⌝ }
+{
+    let end = called(k, bytes, log, used).used;
+    if end <= used {
+        return &mut log[0..0];
+    }
+    &mut log[used..end]
+}

@@ -1,0 +1,76 @@
+// The undo of a log's last note: put back, test the rules, run the call again, and compare the state and the note.
+ghost use mathlib.Core.Path.{_≡_};
+ghost use mathlib.Core.Bool.{true, cond};
+ghost use Rattle.notes.specs.Undoes.{backFrom, levelsFit, yieldsAgain, undoesNote};
+ghost use Rattle.replay.specs.Steps.{answer};
+ghost use Rattle.replay.specs.Logs.{logged, undone};
+use crate::logs;
+use crate::logs::Logged;
+use crate::step;
+use crate::step::Answer;
+use calls::call;
+use kernel::records::Kernel;
+use noting::note;
+use reading::frames;
+use reading::frames::Decoded;
+use reading::last;
+use reading::state_back;
+
+// Whether the state, with the call run again, yields the end state and the note.
+fn yields_again(old: Kernel, bytes: [u8; 16], end: Kernel, note: &[u8]) -> bool
+    ensures { λ r. ⌜ (levelsFit old ≡ true → r ≡ yieldsAgain old bytes end (now (note .entry))) ⌝ }
+{
+    if !tested::keeps_rules(old) {
+        return false;
+    }
+    let next = step::step(old, call::call_of(bytes));
+    if next.answer.number != 0 {
+        return false;
+    }
+    let kernel = next.kernel;
+    if !same::same_kernel(kernel, end) {
+        return false;
+    }
+    note::is_note(old, bytes, kernel, next.answer.value, note)
+}
+
+// The note undone: the earlier state with the length of log before the note, or 15.
+fn undo_note(k: Kernel, note: &[u8], before: usize, used: usize) -> Logged
+    ensures { λ r. ⌜ r ≡ cond (undoesNote k (now (note .entry))) (logged (answer 0 255 (backFrom k (now (note .entry)) .runner)) (backFrom k (now (note .entry))) before) (logged (answer 15 255 (k .runner)) k used) ⌝ }
+{
+    let Decoded::Sections(f) = frames::frames_of(note) else {
+        return logs::refused(15, k.runner, k, used);
+    };
+    let bytes = last::record_in(note);
+    let back = state_back::state_before(call::call_of(bytes), k, note, f);
+    if !back.fits {
+        return logs::refused(15, k.runner, k, used);
+    }
+    let kernel = back.kernel;
+    if !yields_again(kernel, bytes, k, note) {
+        return logs::refused(15, k.runner, k, used);
+    }
+    Logged {
+        answer: Answer {
+            number: 0,
+            value: 255,
+            runner: kernel.runner,
+        },
+        kernel: kernel,
+        used: before,
+    }
+}
+
+// The last note of the first `used` bytes undone, on any state and any log.
+pub fn undo(k: Kernel, log: &[u8], used: usize) -> Logged
+    ensures { λ r. ⌜ r ≡ undone k (now (log .entry)) used ⌝ }
+{
+    if !tested::keeps_rules(k) {
+        return logs::refused(14, 255, k, used);
+    }
+    if !last::has_last(log, used) {
+        return logs::refused(15, k.runner, k, used);
+    }
+    let before = used - last::last_length(log, used);
+    undo_note(k, &log[before..used], before, used)
+}

@@ -1,0 +1,91 @@
+// A program for timing: at most 4,096 records from standard input, run 256 times, each time from fresh with an empty log, and
+// no line for a call. It prints how many records a round has, and of all rounds the accepted calls and the bytes of their notes.
+use kernel::records::Kernel;
+use reading::last;
+use replay::logs;
+
+// Where a round stands: its state, the used part of the log, and the accepted calls.
+struct Run {
+    kernel: Kernel,
+    used: usize,
+    accepted: u64,
+}
+
+// The accepted calls and the bytes of notes of all rounds so far.
+struct Total {
+    accepted: u64,
+    bytes: u64,
+}
+
+// One for a call that is accepted.
+fn one_if(accepted: bool) -> u64 {
+    if accepted { 1 } else { 0 }
+}
+
+// One record more.
+fn next(run: Run, bytes: [u8; 16], log: &mut [u8]) -> Run {
+    let k = run.kernel;
+    let l = logs::recorded(k, bytes, log, run.used);
+    let accepted = one_if(l.answer.number == 0);
+    let state = l.kernel;
+    Run {
+        kernel: state,
+        used: l.used,
+        accepted: std::num::wrapping_add_u64(run.accepted, accepted),
+    }
+}
+
+// The whole records of s; a shorter tail is dropped. No call tests the state rules: fresh keeps them, and so does every state after it.
+// The first call, of a record of zeros, is refused and leaves all as it is: a second place that calls `next` keeps the compiler from
+// taking it into the loop and the state apart, which costs more than the call.
+fn round(s: &[u8], log: &mut [u8]) -> Run {
+    let start = Run {
+        kernel: kernel::records::fresh(),
+        used: 0,
+        accepted: 0,
+    };
+    let mut run = next(start, [0u8; 16], log);
+    let mut at: usize = 0;
+    while 16 <= s.len() - at {
+        run = next(run, last::record_in(&s[at..]), log);
+        at += 16;
+    }
+    run
+}
+
+// All of them.
+fn all_rounds(s: &[u8], log: &mut [u8; 1048576]) -> Total {
+    let mut total = Total {
+        accepted: 0,
+        bytes: 0,
+    };
+    let mut turn: u64 = 0;
+    while turn < 256 {
+        let r = round(s, log);
+        total = Total {
+            accepted: std::num::wrapping_add_u64(total.accepted, r.accepted),
+            bytes: std::num::wrapping_add_u64(total.bytes, r.used as u64),
+        };
+        turn += 1;
+    }
+    total
+}
+
+// The one line of the program.
+fn finished(records: u64, accepted: u64, bytes: u64) {
+    io::write_all(1, b"records ");
+    io::print_decimal(1, records);
+    io::write_all(1, b" rounds 256 accepted ");
+    io::print_decimal(1, accepted);
+    io::write_all(1, b" bytes ");
+    io::print_decimal(1, bytes);
+    io::write_all(1, b"\n");
+}
+
+fn main() {
+    let mut log = [0u8; 1048576];
+    let mut input = io::large_buffer();
+    let n = io::read_full(0, &mut input);
+    let total = all_rounds(&input[..n], &mut log);
+    finished((n / 16) as u64, total.accepted, total.bytes)
+}

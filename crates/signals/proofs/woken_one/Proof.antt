@@ -1,0 +1,21 @@
+-- `signals::woken_one` meets its contract: the thread's record is put anew.
+use borrow.Author.Needs.{needs}
+use Rattle.objects.specs.Events.{wakeIn}
+use Rattle.signals.proofs.woken_one.Statement.{statement}
+use Rattle.signals.proofs.woken_one.Tie as tie
+
+thread-at-requires : tie.Need-thread-at-requires
+thread-at-requires c κs = search needs
+
+awake-requires : tie.Need-awake-requires
+awake-requires c κs = search needs
+
+relocated-requires : tie.Need-relocated-requires
+relocated-requires c κs = search needs
+
+returns : tie.Need-returns
+unfolding wakeIn
+returns c = rw (c .relocated .ensures, c .before .awake .ensures, c .before .before .thread-at .ensures)
+
+pub woken-one-spec : {M : Type 1} → statement M
+woken-one-spec = tie.close (tie.spec thread-at-requires awake-requires relocated-requires returns)

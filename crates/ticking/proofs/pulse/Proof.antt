@@ -1,0 +1,89 @@
+-- `ticking::pulse` meets its contract: the period and the ticks left decide.
+use Prim.Native.Nat.{_-_}
+use mathlib.Core.Path.{_≡_, sym, ap, _∙_}
+use mathlib.Core.Bool.{false}
+use mathlib.Core.Logic.{⊎-elim}
+use native.Mathlib.Omega.{arith}
+use lib.Dec.{eqb}
+use borrow.Author.Tests.{eq-eqb, ne-eqb}
+use borrow.Author.Needs.{needs}
+use Rattle.kernel.specs.declared.records.Semaphore.{Semaphore}
+use Rattle.kernel.specs.Records.{semaphore}
+use Rattle.effects.specs.Time.{pulse}
+use Rattle.ticking.proofs.pulse.Statement.{statement}
+use Rattle.ticking.proofs.pulse.Tie as tie
+
+-- what the semaphore's record says
+abbrev told : tie.After-semaphore-at → Semaphore
+told c = semaphore (c .before .before .args .k) (c .before .before .args .i)
+
+period : (c : tie.After-semaphore-at) → c .semaphore-at .result .period ≡ told c .period
+period c = ap (λ (r : Semaphore). r .period) (c .semaphore-at .ensures)
+
+ticks : (c : tie.After-semaphore-at) → c .semaphore-at .result .ticks ≡ told c .ticks
+ticks c = ap (λ (r : Semaphore). r .ticks) (c .semaphore-at .ensures)
+
+periodic : (c : tie.After-semaphore-at) → (c .semaphore-at .result .period ≡ 0 → ⊥) → eqb (told c .period) 0 ≡ false
+periodic c h = ne-eqb (told c .period) 0 (λ z. h (period c ∙ z))
+
+-- where the arms meet: below 0 there is no tick
+meets : (c : tie.Joined3) → c .if3 .left ≡ c .before .before .before .before .before .before .semaphore-at .result .ticks - 1
+meets c = ⊎-elim (λ w. w .2) (λ w. omega (arith, w .0 .left, w .1)) (c .if3 .came)
+
+semaphore-at-requires : tie.Need-semaphore-at-requires
+semaphore-at-requires c κs = search needs
+
+returns : tie.Need-returns
+unfolding pulse
+returns c =
+    let s = c .before .before in
+    rw (eq-eqb (told s .period) 0 (sym (period s) ∙ c .if1 .taken))
+
+post-requires : tie.Need-post-requires
+post-requires c κs = search needs
+
+semaphore-at-requires-2 : tie.Need-semaphore-at-requires-2
+semaphore-at-requires-2 c κs = search needs
+
+with-ticks-requires : tie.Need-with-ticks-requires
+with-ticks-requires c κs = search needs
+
+with-semaphore-requires : tie.Need-with-semaphore-requires
+with-semaphore-requires c κs = search needs
+
+returns-2 : tie.Need-returns-2
+unfolding pulse
+returns-2 c =
+    let s = c .before .before .before .before .before .before .before .before .before in
+    rw (periodic s (c .before .before .before .before .before .before .before .if1 .left), eq-eqb (told s .ticks) 1 (sym (ticks s) ∙ c .before .before .before .before .before .if2 .taken), c .with-semaphore .ensures, c .before .with-ticks .ensures, c .before .before .semaphore-at2 .ensures, c .before .before .before .before .post .ensures, s .semaphore-at .ensures)
+
+sub-left : tie.Need-sub-left
+sub-left c = search needs
+
+with-ticks-requires-2 : tie.Need-with-ticks-requires-2
+with-ticks-requires-2 c κs = search needs
+
+with-semaphore-requires-2 : tie.Need-with-semaphore-requires-2
+with-semaphore-requires-2 c κs = search needs
+
+returns-3 : tie.Need-returns-3
+unfolding pulse
+returns-3 c =
+    let s = c .before .before .before .before .before .before .before .before in
+    rw (periodic s (c .before .before .before .before .before .before .if1 .left), ne-eqb (told s .ticks) 1 (λ z. c .before .before .before .before .if2 .left (ticks s ∙ z)), c .with-semaphore2 .ensures, c .before .with-ticks2 .ensures, meets (c .before .before), s .semaphore-at .ensures)
+
+pub pulse-spec : {M : Type 1} → statement M
+pulse-spec =
+    tie.close
+    (tie.spec
+    semaphore-at-requires
+    returns
+    post-requires
+    semaphore-at-requires-2
+    with-ticks-requires
+    with-semaphore-requires
+    returns-2
+    sub-left
+    with-ticks-requires-2
+    with-semaphore-requires-2
+    returns-3)

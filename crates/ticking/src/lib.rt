@@ -1,0 +1,145 @@
+// The tick: uptime, time-outs in time queue order, then periodic semaphores in id order.
+ghost use mathlib.Core.Path.{_≡_};
+ghost use mathlib.Core.List.{map};
+ghost use Rattle.threads.specs.Parts.{each};
+ghost use Rattle.effects.specs.Time.{reasonAt, timeUp, due, aged, timePasses, pulse, pulseFrom, tick};
+use calls::call::Call;
+use kernel::moves::Threads;
+use kernel::records::Condition;
+use kernel::records::Kernel;
+use kernel::records::Object;
+use kernel::records::Thread;
+use kernel::records::Wake;
+use objects::semaphores;
+use seek::records;
+use threads::parts;
+
+fn reason_at(c: Condition) -> Wake
+    ensures { λ w. ⌜ w ≡ reasonAt c ⌝ }
+{
+    match c {
+        Condition::Ready => Wake::Met,
+        Condition::Asleep => Wake::Met,
+        Condition::ForSemaphore(_) => Wake::TimedOut(Object::Semaphore),
+        Condition::ForEvent(_) => Wake::TimedOut(Object::Event),
+        Condition::ForMessage(_) => Wake::TimedOut(Object::Message),
+    }
+}
+
+// Thread t's time is up.
+fn time_up(p: Threads, t: u8) -> Threads
+    ensures { λ x. ⌜ x ≡ timeUp t p ⌝ }
+{
+    let now = p.records;
+    let r = records::thread_at(now, t as u16);
+    let c = r.condition;
+    let why = reason_at(c);
+    moving::relocated(p, t, living::awake(r, why, r.reply))
+}
+
+// Those whose last tick this is wake, in time queue order.
+fn due_woken(p: Threads) -> Threads
+    ensures { λ x. ⌜ x ≡ each timeUp (due p) p ⌝ }
+{
+    let before = p.records;
+    let q = p.time;
+    let at = q.at;
+    let n = queue::size(q);
+    let mut next = p;
+    let mut i: usize = 0;
+    while i < n {
+        let t = at[i];
+        i += 1;
+        let r = records::thread_at(before, t as u16);
+        if r.ticks == 1 {
+            next = time_up(next, t);
+        }
+    }
+    next
+}
+
+fn aged(r: Thread) -> Thread
+    ensures { λ x. ⌜ x ≡ aged r ⌝ }
+{
+    let mut next = r;
+    if 0 < r.ticks {
+        next.ticks = r.ticks - 1;
+    }
+    next
+}
+
+// Every thread with ticks left loses one.
+fn aged_records(threads: [Thread; 32]) -> [Thread; 32]
+    ensures { λ x. ⌜ x ≡ map aged threads ⌝ }
+{
+    let mut next = threads;
+    let mut t: usize = 0;
+    while t < 32 {
+        let r = threads[t];
+        next[t] = aged(r);
+        t += 1;
+    }
+    next
+}
+
+fn time_passes(p: Threads) -> Threads
+    ensures { λ x. ⌜ x ≡ timePasses p ⌝ }
+{
+    let woken = due_woken(p);
+    let now = woken.records;
+    let records = aged_records(now);
+    let places = woken.places;
+    let time = woken.time;
+    Threads {
+        records: records,
+        places: places,
+        time: time,
+    }
+}
+
+// Periodic semaphore i loses a tick, and at 0 is posted and set to its period.
+fn pulse(k: Kernel, i: u8) -> Kernel
+    ensures { λ x. ⌜ x ≡ pulse i k ⌝ }
+{
+    let semaphores = k.semaphores;
+    let r = records::semaphore_at(semaphores, i);
+    if r.period == 0 {
+        return k;
+    }
+    if r.ticks == 1 {
+        let next = semaphores::post(k, i);
+        let after = next.semaphores;
+        let s = records::semaphore_at(after, i);
+        return semaphores::with_semaphore(next, i, semaphores::with_ticks(s, r.period, r.period));
+    }
+    let left = if 0 < r.ticks { r.ticks - 1 } else { 0 };
+    semaphores::with_semaphore(k, i, semaphores::with_ticks(r, left, r.period))
+}
+
+// The periodic semaphores in id order.
+fn pulses(k: Kernel) -> Kernel
+    ensures { λ x. ⌜ x ≡ pulseFrom 0 16 k ⌝ }
+{
+    let mut next = k;
+    let mut i: u8 = 0;
+    while i < 16 {
+        let j = i as usize;
+        i += 1;
+        if next.semaphores[j].period != 0 {
+            next = pulse(next, j as u8);
+        }
+    }
+    next
+}
+
+pub fn tick(k: Kernel, c: Call) -> Kernel
+    ensures { λ x. ⌜ x ≡ tick k c ⌝ }
+{
+    let mut next = k;
+    next.uptime = if k.uptime == 4294967295 {
+        0
+    } else {
+        k.uptime + 1
+    };
+    pulses(parts::with_threads(next, time_passes(parts::threads_of(k))))
+}

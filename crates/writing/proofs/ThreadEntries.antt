@@ -1,0 +1,36 @@
+-- A thread id above 255 has no entry: nobody's record is changed, and the ids that a call names are bytes.
+use Prim.Native.Nat.{ℕ, _<_}
+use mathlib.Core.Path.{_≡_}
+use mathlib.Core.Bool.{true, and-false}
+use mathlib.Core.List.{List, []}
+use native.Mathlib.Omega.{arith}
+use lib.ListN.{length}
+use borrow.Author.Tests.{ne-eqb}
+use borrow.Table.Steps.{cases}
+use Rattle.kernel.specs.declared.records.Thread.{Thread}
+use Rattle.kernel.specs.declared.moves.Threads.{Threads}
+use Rattle.kernel.specs.Records.{noThread}
+use Rattle.kernel.proofs.Joins.{past-end}
+use Rattle.calls.specs.declared.call.Call.{Call}
+use Rattle.calls.specs.Refusals.{is}
+use Rattle.notes.specs.Touched.{sameThread, youngerThread}
+use Rattle.writing.specs.ThreadEntries.{entryIn}
+
+-- nobody's record is the same before and after, and no byte is such an id
+none-same : (c : Call) → sameThread noThread (youngerThread c noThread) ≡ true
+unfolding sameThread youngerThread
+none-same c = cases (is c 1) (λ e. rw e) (λ e. rw e)
+
+pub past-bytes : (c : Call) (runner : ℕ) (old : Threads) (new : List Thread) (t : ℕ) → c .a < 256 → runner < 256 → 255 < t
+    → length (old .records) ≡ 32 → length new ≡ 32 → entryIn c runner old new t ≡ []
+unfolding entryIn
+past-bytes c runner old new t a b h l m =
+    rw (
+      past-end (old .records) noThread {u = t} l (omega arith),
+      past-end new noThread {u = t} m (omega arith),
+      none-same c,
+      ne-eqb t runner (λ z. omega arith),
+      ne-eqb t (c .a) (λ z. omega arith),
+      and-false,
+      and-false,
+    )

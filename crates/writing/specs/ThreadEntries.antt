@@ -1,0 +1,26 @@
+-- The entries of threads, over the parts of the two states that they speak of: as `touchedThread` and `threadEntry` of whole states.
+use Prim.Native.Nat.{ℕ}
+use mathlib.Core.Bool.{Bool, cond}
+use mathlib.Core.List.{List, []}
+use lib.ListN.{getD}
+use Rattle.queue.specs.Tables.{oldPlace}
+use Rattle.queue.specs.Queues.{items}
+use Rattle.kernel.specs.declared.records.Thread.{Thread}
+use Rattle.kernel.specs.declared.moves.Threads.{Threads}
+use Rattle.kernel.specs.Records.{noThread}
+use Rattle.calls.specs.declared.call.Call.{Call}
+use Rattle.notes.specs.Touched.{changedThread}
+use Rattle.notes.specs.Sections.{threadNoted}
+
+-- `runner` is who ran before the call
+abbrev pub isChanged : Call → ℕ → Threads → List Thread → ℕ → Bool
+isChanged c runner old new t = changedThread t runner c (getD (old .records) t noThread) (getD new t noThread)
+
+abbrev pub entryOf : Call → Threads → List Thread → ℕ → List ℕ
+entryOf c old new t =
+    threadNoted t c (getD (old .records) t noThread) (oldPlace t (items (old .places))) (oldPlace t (items (old .time)))
+    (getD new t noThread)
+
+-- the entry of one that is touched, else nothing
+unfoldable pub entryIn : Call → ℕ → Threads → List Thread → ℕ → List ℕ
+entryIn c runner old new t = cond (isChanged c runner old new t) (entryOf c old new t) []

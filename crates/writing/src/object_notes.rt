@@ -1,0 +1,141 @@
+// The entries of semaphores and events, and the byte of a changed event bit.
+ghost use mathlib.Core.Path.{_≡_};
+ghost use mathlib.Core.Bool.{cond, not};
+ghost use mathlib.Core.List.{[], _∷_};
+ghost use lib.Dec.{eqb};
+ghost use Rattle.coding.specs.Pens.{pen, puts};
+ghost use Rattle.notes.specs.Touched.{changedSemaphore, sameEvent};
+ghost use Rattle.notes.specs.Sections.{semaphoreNoted, eventNoted};
+ghost use Rattle.writing.specs.Tables.{semaphoreEntries, eventEntries};
+use crate::flagged::put_flagged;
+use calls::call::Call;
+use coding::pens::put_byte;
+use kernel::records::Event;
+use kernel::records::Semaphore;
+use rows::event_rows;
+use rows::semaphore_rows;
+
+const SEMAPHORE_WIDTHS: [u8; 8] = [1, 2, 2, 4, 4, 0, 0, 0];
+
+const EVENT_WIDTHS: [u8; 8] = [1, 4, 4, 0, 0, 0, 0, 0];
+
+// A semaphore before: its id, and what isn't as predicted of its record.
+pub fn put_semaphore(
+    log: &mut [u8],
+    at: usize,
+    i: u8,
+    c: Call,
+    old: Semaphore,
+    new: Semaphore,
+) -> usize
+    ensures { λ r. ⌜ pen (now (log .exit)) r ≡ puts (pen (now (log .entry)) at) (semaphoreNoted i c old new) ⌝ }
+{
+    let before = semaphore_rows::row_of(old);
+    let told = semaphore_rows::predicted(c, new);
+    let p = put_byte(log, at, i);
+    let fields = before.fields;
+    let predicted = told.fields;
+    put_flagged(log, p, SEMAPHORE_WIDTHS, fields, predicted)
+}
+
+// The same, where more than ageing changed it.
+fn put_changed_semaphore(
+    log: &mut [u8],
+    at: usize,
+    i: u8,
+    c: Call,
+    old: Semaphore,
+    new: Semaphore,
+) -> usize
+    ensures { λ r. ⌜ pen (now (log .exit)) r ≡ puts (pen (now (log .entry)) at) (cond (changedSemaphore c old new) (semaphoreNoted i c old new) []) ⌝ }
+{
+    if semaphore_rows::same(old, semaphore_rows::younger(c, new)) {
+        return at;
+    }
+    put_semaphore(log, at, i, c, old, new)
+}
+
+// The changed ones of `count` semaphores from `first` on. Ids past the last have no record that changes.
+pub fn put_semaphores(
+    log: &mut [u8],
+    at: usize,
+    c: Call,
+    old: [Semaphore; 16],
+    new: [Semaphore; 16],
+    first: u8,
+    count: u8,
+) -> usize
+    ensures { λ r. ⌜ pen (now (log .exit)) r ≡ puts (pen (now (log .entry)) at) (semaphoreEntries c old new first count) ⌝ }
+{
+    let mut p = at;
+    let mut i = first;
+    let mut left = count;
+    while 0 < left {
+        if 16 <= i {
+            return p;
+        }
+        let j = i as usize;
+        p = put_changed_semaphore(log, p, i, c, old[j], new[j]);
+        i += 1;
+        left -= 1;
+    }
+    p
+}
+
+// An event before: its id, and what isn't as after the call.
+pub fn put_event(log: &mut [u8], at: usize, i: u8, old: Event, new: Event) -> usize
+    ensures { λ r. ⌜ pen (now (log .exit)) r ≡ puts (pen (now (log .entry)) at) (eventNoted i old new) ⌝ }
+{
+    let before = event_rows::row_of(old);
+    let told = event_rows::row_of(new);
+    let p = put_byte(log, at, i);
+    let fields = before.fields;
+    let predicted = told.fields;
+    put_flagged(log, p, EVENT_WIDTHS, fields, predicted)
+}
+
+// The same, where it changed.
+fn put_changed_event(log: &mut [u8], at: usize, i: u8, old: Event, new: Event) -> usize
+    ensures { λ r. ⌜ pen (now (log .exit)) r ≡ puts (pen (now (log .entry)) at) (cond (not (sameEvent old new)) (eventNoted i old new) []) ⌝ }
+{
+    if event_rows::same(old, new) {
+        return at;
+    }
+    put_event(log, at, i, old, new)
+}
+
+// The changed ones of `count` events from `first` on. Ids past the last have no record that changes.
+pub fn put_events(
+    log: &mut [u8],
+    at: usize,
+    old: [Event; 8],
+    new: [Event; 8],
+    first: u8,
+    count: u8,
+) -> usize
+    ensures { λ r. ⌜ pen (now (log .exit)) r ≡ puts (pen (now (log .entry)) at) (eventEntries old new first count) ⌝ }
+{
+    let mut p = at;
+    let mut i = first;
+    let mut left = count;
+    while 0 < left {
+        if 8 <= i {
+            return p;
+        }
+        let j = i as usize;
+        p = put_changed_event(log, p, i, old[j], new[j]);
+        i += 1;
+        left -= 1;
+    }
+    p
+}
+
+// A byte 8 where a bit changed.
+pub fn put_bits(log: &mut [u8], at: usize, old: u32, new: u32) -> usize
+    ensures { λ r. ⌜ pen (now (log .exit)) r ≡ puts (pen (now (log .entry)) at) (cond (eqb old new) [] (8 ∷ [])) ⌝ }
+{
+    if old == new {
+        return at;
+    }
+    put_byte(log, at, 8)
+}

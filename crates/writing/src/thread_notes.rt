@@ -1,0 +1,115 @@
+// The threads' section: who is touched by a call, and the entry of each.
+ghost use mathlib.Core.Path.{_≡_};
+ghost use mathlib.Core.Bool.{cond};
+ghost use mathlib.Core.List.{[]};
+ghost use Rattle.coding.specs.Pens.{pen, puts};
+ghost use Rattle.notes.specs.Touched.{movesInPlace, changedThread};
+ghost use Rattle.notes.specs.Sections.{entriesFrom, threadNoted};
+ghost use Rattle.writing.specs.ThreadEntries.{isChanged, entryOf, entryIn};
+use crate::flagged::put_flagged;
+use crate::old_places::old_place;
+use calls::call::Call;
+use coding::pens;
+use kernel::moves::Threads;
+use kernel::records::Thread;
+use rows::thread_rows;
+use seek::records;
+
+// A yield, and a priority that is set or reset, move a thread though its record may stay.
+fn moves_in_place(runner: u8, c: Call, t: u8) -> bool
+    ensures { λ r. ⌜ r ≡ movesInPlace runner c t ⌝ }
+{
+    let kind = c.kind;
+    match kind {
+        6 => t == runner,
+        4 => t == c.a,
+        5 => t == c.a,
+        _ => false,
+    }
+}
+
+// Whether the call did more to thread t than ageing explains; `runner` is who ran before it.
+pub fn is_touched(t: u8, runner: u8, c: Call, old: Thread, new: Thread) -> bool
+    ensures { λ r. ⌜ r ≡ changedThread t runner c old new ⌝ }
+{
+    if !thread_rows::same(old, thread_rows::younger(c, new)) {
+        return true;
+    }
+    moves_in_place(runner, c, t)
+}
+
+// The entry of thread t: its id, its code before, and what isn't as predicted of its record and its two old places.
+pub fn put_thread(
+    log: &mut [u8],
+    at: usize,
+    t: u8,
+    c: Call,
+    old: Thread,
+    place: u8,
+    due: u8,
+    new: Thread,
+) -> usize
+    ensures { λ r. ⌜ pen (now (log .exit)) r ≡ puts (pen (now (log .entry)) at) (threadNoted t c old place due new) ⌝ }
+{
+    let code = thread_rows::code_of(old);
+    let row = thread_rows::row_of(old, place, due);
+    let guess = thread_rows::predicted(c, new, code);
+    let fields = row.fields;
+    let guessed = guess.fields;
+    let p = pens::put_byte(log, at, t);
+    let q = pens::put_byte(log, p, code);
+    put_flagged(log, q, thread_rows::widths(), fields, guessed)
+}
+
+// The entry of an id, where the call touched it. An id above 255 is nobody's.
+fn put_touched(
+    log: &mut [u8],
+    at: usize,
+    c: Call,
+    runner: u8,
+    old: Threads,
+    new: [Thread; 32],
+    t: u32,
+) -> usize
+    ensures { λ r. ⌜ pen (now (log .exit)) r ≡ puts (pen (now (log .entry)) at) (entryIn c runner old new t) ⌝ }
+{
+    if 255 < t {
+        return at;
+    }
+    let id = t as u8;
+    let threads = old.records;
+    let before = records::thread_at(threads, id as u16);
+    let after = records::thread_at(new, id as u16);
+    if !is_touched(id, runner, c, before, after) {
+        return at;
+    }
+    let places = old.places;
+    let time = old.time;
+    let place = old_place(places, id);
+    let due = old_place(time, id);
+    put_thread(log, at, id, c, before, place, due, after)
+}
+
+// The entries of so many ids from the first on.
+pub fn put_threads(
+    log: &mut [u8],
+    at: usize,
+    c: Call,
+    runner: u8,
+    old: Threads,
+    new: [Thread; 32],
+    first: u16,
+    count: u8,
+) -> usize
+    ensures { λ r. ⌜ pen (now (log .exit)) r ≡ puts (pen (now (log .entry)) at) (entriesFrom (isChanged c runner old new) (entryOf c old new) first count) ⌝ }
+{
+    let mut p = at;
+    let mut t = first as u32;
+    let mut left = count;
+    while 0 < left {
+        p = put_touched(log, p, c, runner, old, new, t);
+        t += 1;
+        left -= 1;
+    }
+    p
+}
