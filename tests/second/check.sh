@@ -112,4 +112,5 @@ grep -c '^[0-9]* 13 ' "$work/fake" | sed 's/$/ times number 13 in a full log/'
 
 "$work/quick" rounds < "$work/mixed.1"
 "$work/careful" rounds < "$work/samples/printed"
+"$work/quick" rounds back < "$work/mixed.1"
 echo "second: all checks passed"

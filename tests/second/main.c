@@ -6,7 +6,7 @@
 
 #include "modes.h"
 
-enum { ROUND_RECORDS = 4096, ROUNDS = 256, BUFFER = 1 << 16 };
+enum { ROUND_RECORDS = 4096, ROUNDS = 256, ROUNDS_BACK = 16, BUFFER = 1 << 16 };
 
 static struct kernel kernel; /* too large for some stacks */
 
@@ -40,19 +40,34 @@ int printed(void)
     return 0;
 }
 
-int rounds(void)
+int rounds(int back)
 {
     static uint8_t records[ROUND_RECORDS][RECORD];
+    int turns = back ? ROUNDS_BACK : ROUNDS, count = 0;
     unsigned long accepted = 0;
-    int count = 0;
+    struct kernel *before = back ? malloc(ROUND_RECORDS * sizeof *before) : NULL;
+    if (back && before == NULL) {
+        perror("memory");
+        return 2;
+    }
     while (count < ROUND_RECORDS && next_record(records[count]))
         count++;
-    for (int round = 0; round < ROUNDS; round++) {
+    for (int round = 0; round < turns; round++) {
+        int kept = 0;
         make_fresh(&kernel);
-        for (int i = 0; i < count; i++)
-            accepted += call_kept(&kernel, records[i]).number == 0;
+        for (int i = 0; i < count; i++) {
+            if (back)
+                before[kept] = kernel; /* this replay writes no notes: a way back is a copy */
+            if (call_kept(&kernel, records[i]).number == 0) {
+                accepted++;
+                kept += back;
+            }
+        }
+        while (kept > 0)
+            kernel = before[--kept];
     }
-    printf("records %d rounds %d accepted %lu\n", count, ROUNDS, accepted);
+    free(before);
+    printf("records %d rounds %d accepted %lu\n", count, turns, accepted);
     return 0;
 }
 
@@ -65,11 +80,13 @@ int main(int argc, char **argv)
     if (argc == 2 && strcmp(argv[1], "printed") == 0)
         status = printed();
     else if (argc == 2 && strcmp(argv[1], "rounds") == 0)
-        status = rounds();
+        status = rounds(0);
+    else if (argc == 3 && strcmp(argv[1], "rounds") == 0 && strcmp(argv[2], "back") == 0)
+        status = rounds(1);
     else if (argc == 3 && strcmp(argv[1], "both") == 0)
         status = both(argv[2]);
     else
-        fprintf(stderr, "usage: second printed | both LINESFILE | rounds  < records\n");
+        fprintf(stderr, "usage: second printed | both LINESFILE | rounds [back]  < records\n");
     if (fflush(stdout) != 0 || ferror(stdout)) {
         perror("standard output");
         status = 2;

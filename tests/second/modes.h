@@ -10,7 +10,7 @@ int next_record(uint8_t record[RECORD]);
 struct answer step(struct kernel *k, const uint8_t record[RECORD]);
 
 int printed(void);
-int rounds(void);
+int rounds(int back);
 int both(const char *lines_file);
 
 #endif

@@ -3,4 +3,4 @@
 pub mod bytes;
 pub mod logs;
 pub mod pens;
-pub mod rows;
+pub mod row_bytes;

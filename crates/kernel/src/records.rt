@@ -51,15 +51,16 @@ pub struct Event {
     pub values: u32,
 }
 
-// `kind` is document 01's type. `channel` is the place and no part of the record: 0 where the owner holds the message.
+// `kind` is document 01's type. `channel` is the place and no part of the record: 0 where the owner holds the message. It stands with
+// the other single bytes, so that a message takes sixteen.
 pub struct Message {
     pub live: bool,
     pub owner: u8,
     pub sender: u8,
+    pub channel: u8,
     pub kind: u16,
     pub size: u32,
     pub address: u32,
-    pub channel: u8,
 }
 
 pub struct Kernel {
@@ -111,10 +112,10 @@ pub fn no_message() -> Message
         live: false,
         owner: 0,
         sender: 0,
+        channel: 0,
         kind: 0,
         size: 0,
         address: 0,
-        channel: 0,
     }
 }
 

@@ -2,3 +2,4 @@
 pub mod Sizes
 pub mod Fronts
 pub mod Compared
+pub mod Waiters

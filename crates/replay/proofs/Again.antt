@@ -1,12 +1,12 @@
 -- The branches of the undo, each from what its tests have found.
 use Prim.Native.Nat.{ℕ, _-_, _≤_, _<_}
 use mathlib.Core.Path.{_≡_, refl, sym, ap, _∙_}
-use mathlib.Core.Bool.{Bool, true, false, cond, and-true, and-eq-true-iff, false≢true}
+use mathlib.Core.Bool.{true, false, cond, and-true, and-eq-true-iff, false≢true}
 use mathlib.Core.List.{List, []}
 use native.Mathlib.Omega.{arith}
-use lib.Dec.{ltb}
+use lib.Dec.{eqb, ltb}
 use lib.ListN.{length, take, drop, drop-of-length-le}
-use borrow.Author.Tests.{lt-ltb, ltb-true, ltb-false, leb-true}
+use borrow.Author.Tests.{eqb-true, eq-eqb, lt-ltb, ltb-true, ltb-false, leb-true}
 use borrow.Table.Steps.{cases}
 use Rattle.coding.specs.Bytes.{un}
 use Rattle.kernel.specs.declared.records.Kernel.{Kernel}
@@ -15,7 +15,7 @@ use Rattle.calls.specs.declared.call.Call.{Call}
 use Rattle.calls.specs.Calls.{callOf}
 use Rattle.calls.specs.Refusals.{numberOf}
 use Rattle.threads.specs.Parts.{scheduled}
-use Rattle.effects.specs.Effects.{effect, valueOf}
+use Rattle.effects.specs.Effects.{effect}
 use Rattle.notes.specs.Touched.{sameRow}
 use Rattle.notes.specs.Notes.{noteOf}
 use Rattle.notes.specs.Same.{sameKernel}
@@ -29,9 +29,20 @@ use Rattle.reading.specs.declared.state_back.Back.{Back}
 use Rattle.reading.specs.Restored.{backOf}
 use Rattle.replay.specs.declared.step.Stepped.{Stepped}
 use Rattle.replay.specs.declared.logs.Logged.{Logged}
-use Rattle.replay.specs.Steps.{answer, accepted, step}
+use Rattle.replay.specs.Steps.{answer, refused, accepted, step}
 use Rattle.replay.specs.Logs.{logged, undone}
-use Rattle.replay.proofs.Recording.{step-accepted, step-refused}
+
+-- a step that answers 0 was accepted, any other was refused with its number
+module _ (k : Kernel) (c : Call) where
+  pub step-accepted : step k c .answer .number ≡ 0 → (numberOf k c ≡ 0) × (step k c ≡ accepted k c)
+  unfolding step
+  step-accepted h =
+      cases (eqb (numberOf k c) 0) (λ e. (eqb-true (numberOf k c) 0 e, rw e))
+      (λ e. let n : numberOf k c ≡ 0 = rw e at h in absurd (false≢true (sym e ∙ eq-eqb (numberOf k c) 0 n)))
+
+  pub step-refused : (step k c .answer .number ≡ 0 → ⊥) → (eqb (numberOf k c) 0 ≡ false) × (step k c ≡ refused (numberOf k c) k)
+  unfolding step
+  step-refused h = cases (eqb (numberOf k c) 0) (λ e. absurd (h (rw e))) (λ e. (e, rw e))
 
 -- a state's own levels are bytes
 pub levels-fit : (k : Kernel) → k .unscheduled < 256 → k .critical < 256 → levelsFit k ≡ true

@@ -9,21 +9,20 @@ use Rattle.kernel.specs.declared.records.Kernel.{Kernel}
 use Rattle.rules.specs.Tests.{keepsRules}
 use Rattle.calls.specs.Calls.{callOf}
 use Rattle.calls.specs.Refusals.{numberOf}
-use Rattle.threads.specs.Parts.{scheduled}
-use Rattle.effects.specs.Effects.{effect, valueOf}
+use Rattle.effects.specs.Effects.{valueOf}
 use Rattle.notes.specs.Notes.{noteOf}
 use Rattle.notes.specs.Undo.{lastLength, lastNote}
 use Rattle.notes.specs.Undoes.{backFrom, undoes}
 use Rattle.replay.specs.declared.step.Answer.{Answer}
 use Rattle.replay.specs.declared.logs.Logged.{Logged}
-use Rattle.replay.specs.Steps.{answer}
+use Rattle.replay.specs.Steps.{answer, nextState}
 
 abbrev pub logged : Answer → Kernel → ℕ → Logged
 logged x k used = record { answer = x; kernel = k; used = used }
 
 -- the state after the call, where it is accepted
 abbrev pub nextOf : Kernel → List ℕ → Kernel
-nextOf k bytes = scheduled (effect k (callOf bytes))
+nextOf k bytes = nextState k (callOf bytes)
 
 -- its note
 unfoldable pub noteFor : Kernel → List ℕ → List ℕ

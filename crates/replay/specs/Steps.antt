@@ -21,9 +21,12 @@ answer number value runner = record { number = number; value = value; runner = r
 abbrev pub refused : ℕ → Kernel → Stepped
 refused number k = record { answer = answer number 255 (k .runner); kernel = k }
 
+-- the next state of a call that is not refused: what it does, then who runs
+abbrev pub nextState : Kernel → Call → Kernel
+nextState k c = scheduled (effect k c)
+
 abbrev pub accepted : Kernel → Call → Stepped
-accepted k c =
-    record { answer = answer 0 (valueOf k c) (scheduled (effect k c) .runner); kernel = scheduled (effect k c) }
+accepted k c = record { answer = answer 0 (valueOf k c) (nextState k c .runner); kernel = nextState k c }
 
 -- The call on a state that keeps its rules.
 unfoldable pub step : Kernel → Call → Stepped

@@ -37,19 +37,24 @@ pub fn refused(number: u8, runner: u8, k: Kernel, used: usize) -> Logged
 pub fn recorded(k: Kernel, bytes: [u8; 16], log: &mut [u8], used: usize) -> Logged
     ensures { λ r. ⌜ (r ≡ recorded k bytes (now (log .entry)) used) × (now (log .exit) ≡ logAfter k bytes (now (log .entry)) used) ⌝ }
 {
-    let next = step::step(k, call::call_of(bytes));
-    if next.answer.number != 0 {
-        return refused(next.answer.number, k.runner, k, used);
+    let c = call::call_of(bytes);
+    let number = refusing::number_of(k, c);
+    if number != 0 {
+        return refused(number, k.runner, k, used);
     }
-    let answer = next.answer;
-    let kernel = next.kernel;
-    let end = note::write_note(log, used, k, bytes, kernel, answer.value);
+    let value = acting::value_of(k, c);
+    let next = step::next_state(k, c);
+    let end = note::write_note(log, used, k, bytes, next, value);
     if end == used {
         return refused(13, k.runner, k, used);
     }
     Logged {
-        answer: answer,
-        kernel: kernel,
+        answer: Answer {
+            number: 0,
+            value: value,
+            runner: next.runner,
+        },
+        kernel: next,
         used: end,
     }
 }

@@ -1,8 +1,9 @@
 // A call on a state: the answer, and the next state.
 ghost use mathlib.Core.Path.{_≡_};
-ghost use Rattle.replay.specs.Steps.{step, called};
+ghost use Rattle.replay.specs.Steps.{nextState, step, called};
 use calls::call;
 use calls::call::Call;
+use kernel::records;
 use kernel::records::Kernel;
 use kernel::runner;
 
@@ -17,6 +18,22 @@ pub struct Answer {
 pub struct Stepped {
     pub answer: Answer,
     pub kernel: Kernel,
+}
+
+// The state after a call that is not refused: what the call does, then who runs.
+pub fn next_state(k: Kernel, c: Call) -> Kernel
+    ensures { λ r. ⌜ r ≡ nextState k c ⌝ }
+{
+    let mut next = acting::effect(k, c);
+    let q = next.places;
+    let first = queue::first(q);
+    let mut r = records::no_thread();
+    if first < 32 {
+        let i = first as usize;
+        r = next.threads[i];
+    }
+    next.runner = runner::runner_of(next.unscheduled, next.critical, next.runner, first, r);
+    next
 }
 
 // The call on a state that keeps its rules: a run that starts from a tested state needs no further test.
@@ -35,18 +52,12 @@ pub fn step(k: Kernel, c: Call) -> Stepped
         };
     }
     let value = acting::value_of(k, c);
-    let mut next = acting::effect(k, c);
-    let q = next.places;
-    let first = queue::first(q);
-    let threads = next.threads;
-    let r = seek::records::thread_at(threads, first as u16);
-    let runner = runner::runner_of(next.unscheduled, next.critical, next.runner, first, r);
-    next.runner = runner;
+    let next = next_state(k, c);
     Stepped {
         answer: Answer {
             number: 0,
             value: value,
-            runner: runner,
+            runner: next.runner,
         },
         kernel: next,
     }

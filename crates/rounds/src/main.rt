@@ -1,17 +1,10 @@
 // A program for timing: at most 4,096 records from standard input, run 256 times, each time from fresh with an empty log, and
 // no line for a call. It prints how many records a round has, and of all rounds the accepted calls and the bytes of their notes.
-use kernel::records::Kernel;
+use kernel::records;
 use reading::last;
 use replay::logs;
 
-// Where a round stands: its state, the used part of the log, and the accepted calls.
-struct Run {
-    kernel: Kernel,
-    used: usize,
-    accepted: u64,
-}
-
-// The accepted calls and the bytes of notes of all rounds so far.
+// The accepted calls and the bytes of their notes, of one round or of all so far.
 struct Total {
     accepted: u64,
     bytes: u64,
@@ -22,35 +15,26 @@ fn one_if(accepted: bool) -> u64 {
     if accepted { 1 } else { 0 }
 }
 
-// One record more.
-fn next(run: Run, bytes: [u8; 16], log: &mut [u8]) -> Run {
-    let k = run.kernel;
-    let l = logs::recorded(k, bytes, log, run.used);
-    let accepted = one_if(l.answer.number == 0);
-    let state = l.kernel;
-    Run {
-        kernel: state,
-        used: l.used,
-        accepted: std::num::wrapping_add_u64(run.accepted, accepted),
-    }
-}
-
 // The whole records of s; a shorter tail is dropped. No call tests the state rules: fresh keeps them, and so does every state after it.
-// The first call, of a record of zeros, is refused and leaves all as it is: a second place that calls `next` keeps the compiler from
+// The first call, of a record of zeros, is refused and leaves all as it is: a second place that calls `recorded` keeps the compiler from
 // taking it into the loop and the state apart, which costs more than the call.
-fn round(s: &[u8], log: &mut [u8]) -> Run {
-    let start = Run {
-        kernel: kernel::records::fresh(),
-        used: 0,
-        accepted: 0,
-    };
-    let mut run = next(start, [0u8; 16], log);
+fn round(s: &[u8], log: &mut [u8]) -> Total {
+    let start = logs::recorded(records::fresh(), [0u8; 16], log, 0);
+    let mut k = start.kernel;
+    let mut used = start.used;
+    let mut accepted: u64 = 0;
     let mut at: usize = 0;
     while 16 <= s.len() - at {
-        run = next(run, last::record_in(&s[at..]), log);
+        let l = logs::recorded(k, last::record_in(&s[at..]), log, used);
+        k = l.kernel;
+        used = l.used;
+        accepted = std::num::wrapping_add_u64(accepted, one_if(l.answer.number == 0));
         at += 16;
     }
-    run
+    Total {
+        accepted: accepted,
+        bytes: used as u64,
+    }
 }
 
 // All of them.
@@ -64,7 +48,7 @@ fn all_rounds(s: &[u8], log: &mut [u8; 1048576]) -> Total {
         let r = round(s, log);
         total = Total {
             accepted: std::num::wrapping_add_u64(total.accepted, r.accepted),
-            bytes: std::num::wrapping_add_u64(total.bytes, r.used as u64),
+            bytes: std::num::wrapping_add_u64(total.bytes, r.bytes),
         };
         turn += 1;
     }

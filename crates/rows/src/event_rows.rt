@@ -5,7 +5,7 @@ ghost use Rattle.notes.specs.Rows.{eventRow, eventWidths, eventFrom};
 ghost use Rattle.notes.specs.Touched.{sameEvent};
 use crate::choices::one_if;
 use crate::choices::word;
-use coding::rows::Row;
+use coding::row_bytes::Row;
 use kernel::records::Event;
 
 pub fn row_of(r: Event) -> Row
@@ -34,5 +34,5 @@ pub fn same(r: Event, s: Event) -> bool
     let y = row_of(s);
     let a = x.fields;
     let b = y.fields;
-    coding::rows::flags_of(a, b) == 0
+    coding::row_bytes::flags_of(a, b) == 0
 }

@@ -10,7 +10,7 @@ use crate::choices::either;
 use crate::choices::one_if;
 use crate::choices::word;
 use calls::call::Call;
-use coding::rows::Row;
+use coding::row_bytes::Row;
 use kernel::records::Message;
 
 pub fn row_of(r: Message, place: u8) -> Row
@@ -99,5 +99,5 @@ pub fn same(r: Message, s: Message) -> bool
     let y = row_of(s, 0);
     let a = x.fields;
     let b = y.fields;
-    coding::rows::flags_of(a, b) == 0
+    coding::row_bytes::flags_of(a, b) == 0
 }

@@ -5,7 +5,7 @@ ghost use mathlib.Core.Bool.{cond};
 ghost use Rattle.notes.specs.Rows.{schedulerRow};
 ghost use Rattle.notes.specs.Predicted.{predictedLevels};
 use calls::call::Call;
-use coding::rows::Row;
+use coding::row_bytes::Row;
 
 pub fn row_of(unscheduled: u8, critical: u8, runner: u8) -> Row
     ensures { λ x. ⌜ x .fields ≡ schedulerRow unscheduled critical runner ⌝ }

@@ -11,7 +11,7 @@ use crate::choices::either;
 use crate::choices::one_if;
 use crate::choices::word;
 use calls::call::Call;
-use coding::rows::Row;
+use coding::row_bytes::Row;
 use kernel::records::Semaphore;
 
 pub fn row_of(r: Semaphore) -> Row
@@ -96,5 +96,5 @@ pub fn same(r: Semaphore, s: Semaphore) -> bool
     let y = row_of(s);
     let a = x.fields;
     let b = y.fields;
-    coding::rows::flags_of(a, b) == 0
+    coding::row_bytes::flags_of(a, b) == 0
 }

@@ -11,8 +11,8 @@ ghost use Rattle.notes.specs.Touched.{sameThread, oneTickMore, youngerThread};
 ghost use Rattle.notes.specs.Predicted.{wasBlocked, predictedThread};
 use crate::choices::word;
 use calls::call::Call;
-use coding::rows;
-use coding::rows::Row;
+use coding::row_bytes;
+use coding::row_bytes::Row;
 use kernel::conditions;
 use kernel::records::Condition;
 use kernel::records::Object;
@@ -274,5 +274,5 @@ pub fn same(r: Thread, s: Thread) -> bool
     }
     let old = row_of(r, 0, 0).fields;
     let new = row_of(s, 0, 0).fields;
-    rows::flags_of(old, new) == 0
+    row_bytes::flags_of(old, new) == 0
 }

@@ -9,8 +9,8 @@ ghost use Rattle.notes.specs.Predicted.{predictedEvent};
 ghost use Rattle.notes.specs.Back.{bitChanged, bitsBefore, eventsBefore};
 use calls::call::Call;
 use coding::bytes::byte_at;
-use coding::rows::row_at;
-use coding::rows::used_by;
+use coding::row_bytes::row_at;
+use coding::row_bytes::used_by;
 use kernel::records::Event;
 use rows::event_rows;
 

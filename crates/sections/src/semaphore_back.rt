@@ -10,8 +10,8 @@ ghost use Rattle.notes.specs.Predicted.{predictedSemaphore};
 ghost use Rattle.notes.specs.Back.{semaphoresBefore};
 use calls::call::Call;
 use coding::bytes::byte_at;
-use coding::rows::row_at;
-use coding::rows::used_by;
+use coding::row_bytes::row_at;
+use coding::row_bytes::used_by;
 use kernel::records::Semaphore;
 use rows::semaphore_rows;
 

@@ -24,8 +24,13 @@ fn woken_in(p: Threads, h: u16) -> Threads
     while i < n {
         let t = at[i];
         i += 1;
-        let r = records::thread_at(before, t as u16);
-        if places::home_of(r) == h {
+        let mut home = places::NOWHERE;
+        if t < 32 {
+            let j = t as usize;
+            let r = before[j];
+            home = places::home_of(r);
+        }
+        if home == h {
             next = woken_one(next, t);
         }
     }

@@ -50,8 +50,12 @@ fn due_woken(p: Threads) -> Threads
     while i < n {
         let t = at[i];
         i += 1;
-        let r = records::thread_at(before, t as u16);
-        if r.ticks == 1 {
+        let mut ticks: u32 = 0;
+        if t < 32 {
+            let j = t as usize;
+            ticks = before[j].ticks;
+        }
+        if ticks == 1 {
             next = time_up(next, t);
         }
     }

@@ -2,7 +2,9 @@
 use Prim.Native.Nat.{ℕ}
 use mathlib.Core.Bool.{Bool, cond}
 use mathlib.Core.List.{List, []}
+use lib.Dec.{ltb}
 use lib.ListN.{getD}
+use Rattle.queue.specs.declared.Queue.{Queue}
 use Rattle.queue.specs.Tables.{oldPlace}
 use Rattle.queue.specs.Queues.{items}
 use Rattle.kernel.specs.declared.records.Thread.{Thread}
@@ -21,6 +23,8 @@ entryOf c old new t =
     threadNoted t c (getD (old .records) t noThread) (oldPlace t (items (old .places))) (oldPlace t (items (old .time)))
     (getD new t noThread)
 
--- the entry of one that is touched, else nothing
-unfoldable pub entryIn : Call → ℕ → Threads → List Thread → ℕ → List ℕ
-entryIn c runner old new t = cond (isChanged c runner old new t) (entryOf c old new t) []
+-- the entry of one that is touched, of its two records, else nothing; an id above 255 is nobody's
+unfoldable pub entryIn : Call → ℕ → Queue → Queue → Thread → Thread → ℕ → List ℕ
+entryIn c runner places time before after t =
+    cond (ltb 255 t) []
+    (cond (changedThread t runner c before after) (threadNoted t c before (oldPlace t (items places)) (oldPlace t (items time)) after) [])

@@ -13,8 +13,8 @@ pub fn put_flagged(
 ) -> usize
     ensures { λ r. ⌜ pen (now (log .exit)) r ≡ puts (pen (now (log .entry)) at) (flagged widths old predicted) ⌝ }
 {
-    let p = pens::put_byte(log, at, coding::rows::flags_of(old, predicted));
-    coding::rows::put_body(log, p, widths, old, predicted)
+    let p = pens::put_byte(log, at, coding::row_bytes::flags_of(old, predicted));
+    coding::row_bytes::put_body(log, p, widths, old, predicted)
 }
 
 // The same, and nothing where all is as predicted.
@@ -27,7 +27,7 @@ pub fn put_unless_predicted(
 ) -> usize
     ensures { λ r. ⌜ pen (now (log .exit)) r ≡ puts (pen (now (log .entry)) at) (unlessPredicted widths old predicted) ⌝ }
 {
-    if coding::rows::flags_of(old, predicted) == 0 {
+    if coding::row_bytes::flags_of(old, predicted) == 0 {
         return at;
     }
     put_flagged(log, at, widths, old, predicted)

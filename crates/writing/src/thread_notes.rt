@@ -12,8 +12,9 @@ use calls::call::Call;
 use coding::pens;
 use kernel::moves::Threads;
 use kernel::records::Thread;
+use kernel::records::no_thread;
+use queue::Queue;
 use rows::thread_rows;
-use seek::records;
 
 // A yield, and a priority that is set or reset, move a thread though its record may stay.
 fn moves_in_place(runner: u8, c: Call, t: u8) -> bool
@@ -61,36 +62,33 @@ pub fn put_thread(
     put_flagged(log, q, thread_rows::widths(), fields, guessed)
 }
 
-// The entry of an id, where the call touched it. An id above 255 is nobody's.
+// The entry of an id with its two records, where the call touched it. An id above 255 is nobody's.
 fn put_touched(
     log: &mut [u8],
     at: usize,
     c: Call,
     runner: u8,
-    old: Threads,
-    new: [Thread; 32],
+    places: Queue,
+    time: Queue,
+    before: Thread,
+    after: Thread,
     t: u32,
 ) -> usize
-    ensures { λ r. ⌜ pen (now (log .exit)) r ≡ puts (pen (now (log .entry)) at) (entryIn c runner old new t) ⌝ }
+    ensures { λ r. ⌜ pen (now (log .exit)) r ≡ puts (pen (now (log .entry)) at) (entryIn c runner places time before after t) ⌝ }
 {
     if 255 < t {
         return at;
     }
     let id = t as u8;
-    let threads = old.records;
-    let before = records::thread_at(threads, id as u16);
-    let after = records::thread_at(new, id as u16);
     if !is_touched(id, runner, c, before, after) {
         return at;
     }
-    let places = old.places;
-    let time = old.time;
     let place = old_place(places, id);
     let due = old_place(time, id);
     put_thread(log, at, id, c, before, place, due, after)
 }
 
-// The entries of so many ids from the first on.
+// The entries of so many ids from the first on. The records are read in place: a call that takes the array copies it for every id.
 pub fn put_threads(
     log: &mut [u8],
     at: usize,
@@ -103,11 +101,21 @@ pub fn put_threads(
 ) -> usize
     ensures { λ r. ⌜ pen (now (log .exit)) r ≡ puts (pen (now (log .entry)) at) (entriesFrom (isChanged c runner old new) (entryOf c old new) first count) ⌝ }
 {
+    let places = old.places;
+    let time = old.time;
+    let nobody = no_thread();
     let mut p = at;
     let mut t = first as u32;
     let mut left = count;
     while 0 < left {
-        p = put_touched(log, p, c, runner, old, new, t);
+        let mut before = nobody;
+        let mut after = nobody;
+        if t < 32 {
+            let i = t as usize;
+            before = old.records[i];
+            after = new[i];
+        }
+        p = put_touched(log, p, c, runner, places, time, before, after, t);
         t += 1;
         left -= 1;
     }

@@ -7,16 +7,16 @@ use Rattle.rounds.proofs.round.Statement.{statement}
 use Rattle.rounds.proofs.round.Tie as tie
 
 abbrev Inv-loop : tie.InvT-loop
-Inv-loop s log₀ run₀ at₀ log run at = (at ≤ length s) × (length log ≡ length log₀)
+Inv-loop s log₀ k₀ used₀ accepted₀ at₀ log k used accepted at = (at ≤ length s) × (length log ≡ length log₀)
 
 abbrev μ-loop : tie.MeasureT-loop
-μ-loop s log₀ run₀ at₀ log run at = length s - at
+μ-loop s log₀ k₀ used₀ accepted₀ at₀ log k used accepted at = length s - at
 
 fresh-requires : tie.Need-fresh-requires Inv-loop μ-loop
 fresh-requires c κs = search needs
 
-next-requires : tie.Need-next-requires Inv-loop μ-loop
-next-requires c κs = search needs
+recorded-requires : tie.Need-recorded-requires Inv-loop μ-loop
+recorded-requires c κs = search needs
 
 loop-holds : tie.Need-loop-holds Inv-loop μ-loop
 loop-holds c = search needs
@@ -36,11 +36,17 @@ part-record-in-end c = search needs
 record-in-requires : tie.Need-record-in-requires Inv-loop μ-loop
 record-in-requires c κs = search needs
 
-next-requires-2 : tie.Need-next-requires-2 Inv-loop μ-loop
-next-requires-2 c κs = search needs
+recorded-requires-2 : tie.Need-recorded-requires-2 Inv-loop μ-loop
+recorded-requires-2 c κs = search needs
+
+one-if-requires : tie.Need-one-if-requires Inv-loop μ-loop
+one-if-requires c κs = search needs
+
+wrapping-add-u64-requires : tie.Need-wrapping-add-u64-requires Inv-loop μ-loop
+wrapping-add-u64-requires c κs = search needs
 
 add-at : tie.Need-add-at Inv-loop μ-loop
-add-at c = omega (arith, c .before .before .before .before .before .before .before .before .before .before .before .before .before .before .before .good .0)
+add-at c = omega (arith, c .before .before .before .before .before .before .before .before .before .before .before .before .before .before .before .before .before .before .before .before .good .0)
 
 loop-less : tie.Need-loop-less Inv-loop μ-loop
 loop-less c = search needs
@@ -61,14 +67,16 @@ round-spec =
     Inv-loop
     μ-loop
     fresh-requires
-    next-requires
+    recorded-requires
     loop-holds
     sub-loop
     sub-record-in
     part-record-in-start
     part-record-in-end
     record-in-requires
-    next-requires-2
+    recorded-requires-2
+    one-if-requires
+    wrapping-add-u64-requires
     add-at
     loop-less
     loop-again

@@ -1,12 +1,14 @@
--- `signals::woken_in` meets its contract: of the i places passed, those whose home is h have woken.
+-- `signals::woken_in` meets its contract: of the i places passed, those whose home is h have woken. Where the arms meet, `home` is the home of the member at i; past the records that is the home of no thread.
 use Prim.Native.Nat.{_-_}
 use mathlib.Core.Path.{_≡_, sym, ap, _∙_}
+use mathlib.Core.Logic.{⊎-elim}
 use native.Mathlib.Omega.{arith}
-use lib.ListN.{length, getD}
+use lib.ListN.{length, length-map, getD}
 use borrow.Author.Tests.{eq-eqb, ne-eqb}
 use borrow.Author.Needs.{needs}
+use Rattle.kernel.specs.Records.{noThread}
 use Rattle.kernel.specs.Places.{homeOf}
-use Rattle.kernel.specs.Moves.{recordIn}
+use Rattle.kernel.proofs.Joins.{past-end}
 use Rattle.seek.proofs.Firsts.{isHome}
 use Rattle.objects.specs.Events.{wakeIn, wokenIn}
 use Rattle.objects.proofs.Turns.{Walked, walk-starts, walk-does, walk-skips, walk-ends}
@@ -19,11 +21,16 @@ Inv-loop h before at n next₀ i₀ next i = Walked wakeIn (isHome before h) nex
 abbrev μ-loop : tie.MeasureT-loop
 μ-loop h before at n next₀ i₀ next i = n - i
 
--- the home of the thread at i
-home : (c : tie.After-home-of Inv-loop μ-loop)
-    → let p = c .before .before .before .before .before .before .before .before .args .p in
-    c .home-of .result ≡ homeOf (recordIn p (getD (p .places .at) (c .before .before .before .loop .i) 0))
-home c = c .home-of .ensures ∙ ap homeOf (c .before .thread-at .ensures)
+-- where the arms meet
+meets : (c : tie.Joined1 Inv-loop μ-loop)
+    → let p = c .before .before .before .before .before .before .before .args .p in
+    c .if1 .home ≡ homeOf (getD (p .records) (getD (p .places .at) (c .before .before .loop .i) 0) noThread)
+unfolding homeOf
+meets c =
+    let s = c .before .before .before .before .before .before .before in
+    let l = s .args .p .records in
+    let e : length l ≡ 32 = sym (length-map l _) ∙ s .good .0 .1 .1 .0 .1 .0 .1 in
+    ⊎-elim (λ w. w .3 ∙ w .2 .ensures) (λ w. w .1 ∙ sym (ap homeOf (past-end l noThread e (omega (arith, w .0 .left))))) (c .if1 .came)
 
 size-requires : tie.Need-size-requires Inv-loop μ-loop
 size-requires c κs = search needs
@@ -40,11 +47,14 @@ array-read-t c = search needs
 add-i : tie.Need-add-i Inv-loop μ-loop
 add-i c = search needs
 
-cast-thread-at : tie.Need-cast-thread-at Inv-loop μ-loop
-cast-thread-at c = search needs
+cast-j : tie.Need-cast-j Inv-loop μ-loop
+cast-j c = search needs
 
-thread-at-requires : tie.Need-thread-at-requires Inv-loop μ-loop
-thread-at-requires c κs = search needs
+mul-r : tie.Need-mul-r Inv-loop μ-loop
+mul-r c = search needs
+
+array-copy-out-r : tie.Need-array-copy-out-r Inv-loop μ-loop
+array-copy-out-r c = search needs
 
 home-of-requires : tie.Need-home-of-requires Inv-loop μ-loop
 home-of-requires c κs = search needs
@@ -57,18 +67,18 @@ loop-less c = search needs
 
 loop-again : tie.Need-loop-again Inv-loop μ-loop
 loop-again c =
-    let a = c .before .before .before .before .before .before .before .before .before .before .args in
-    let l = c .before .before .before .before .before .loop in
-    rw (c .woken-one .ensures) (walk-does wakeIn (isHome (a .p .records) (a .h)) (a .p) (a .p .places .at) (l .i) (l .inv) (omega arith) (eq-eqb _ _ (sym (home (c .before .before)) ∙ c .before .if1 .taken)))
+    let a = c .before .before .before .before .before .before .before .before .before .args in
+    let l = c .before .before .before .before .loop in
+    rw (c .woken-one .ensures) (walk-does wakeIn (isHome (a .p .records) (a .h)) (a .p) (a .p .places .at) (l .i) (l .inv) (omega arith) (eq-eqb _ _ (sym (meets (c .before .before)) ∙ c .before .if2 .taken)))
 
 loop-less-2 : tie.Need-loop-less-2 Inv-loop μ-loop
 loop-less-2 c = search needs
 
 loop-again-2 : tie.Need-loop-again-2 Inv-loop μ-loop
 loop-again-2 c =
-    let a = c .before .before .before .before .before .before .before .before .before .args in
-    let l = c .before .before .before .before .loop in
-    walk-skips wakeIn (isHome (a .p .records) (a .h)) (a .p) (a .p .places .at) (l .i) (l .inv) (omega arith) (ne-eqb _ _ (λ z. c .if1 .left (home (c .before) ∙ z)))
+    let a = c .before .before .before .before .before .before .before .before .args in
+    let l = c .before .before .before .loop in
+    walk-skips wakeIn (isHome (a .p .records) (a .h)) (a .p) (a .p .places .at) (l .i) (l .inv) (omega arith) (ne-eqb _ _ (λ z. c .if2 .left (meets (c .before) ∙ z)))
 
 returns : tie.Need-returns Inv-loop μ-loop
 unfolding wokenIn
@@ -87,8 +97,9 @@ woken-in-spec =
     loop-holds
     array-read-t
     add-i
-    cast-thread-at
-    thread-at-requires
+    cast-j
+    mul-r
+    array-copy-out-r
     home-of-requires
     woken-one-requires
     loop-less

@@ -1,16 +1,17 @@
--- `ticking::due_woken` meets its contract: of the i places passed, those with one tick left have woken.
+-- `ticking::due_woken` meets its contract: of the i places passed, those with one tick left have woken. Where the arms meet, `ticks` is what the member at i has left; past the records that is 0.
 use Prim.Native.Nat.{ℕ, _-_}
 use mathlib.Core.Path.{_≡_, sym, ap, _∙_}
+use mathlib.Core.Logic.{⊎-elim}
 use mathlib.Core.Bool.{Bool}
 use mathlib.Core.List.{List}
 use native.Mathlib.Omega.{arith}
 use lib.Dec.{eqb}
-use lib.ListN.{length, getD}
+use lib.ListN.{length, length-map, getD}
 use borrow.Author.Tests.{eq-eqb, ne-eqb}
 use borrow.Author.Needs.{needs}
 use Rattle.kernel.specs.declared.records.Thread.{Thread}
 use Rattle.kernel.specs.Records.{noThread}
-use Rattle.kernel.specs.Moves.{recordIn}
+use Rattle.kernel.proofs.Joins.{past-end}
 use Rattle.objects.proofs.Turns.{Walked, walk-starts, walk-does, walk-skips, walk-ends}
 use Rattle.effects.specs.Time.{timeUp, due}
 use Rattle.ticking.proofs.due_woken.Statement.{statement}
@@ -25,11 +26,15 @@ Inv-loop before at n next₀ i₀ next i = Walked timeUp (isDue before) next₀ 
 abbrev μ-loop : tie.MeasureT-loop
 μ-loop before at n next₀ i₀ next i = n - i
 
--- the ticks left of the thread at i
-ticks : (c : tie.After-thread-at Inv-loop μ-loop)
+-- where the arms meet
+meets : (c : tie.Joined1 Inv-loop μ-loop)
     → let p = c .before .before .before .before .before .before .before .args .p in
-    c .thread-at .result .ticks ≡ recordIn p (getD (p .time .at) (c .before .before .loop .i) 0) .ticks
-ticks c = ap (λ (r : Thread). r .ticks) (c .thread-at .ensures)
+    c .if1 .ticks ≡ getD (p .records) (getD (p .time .at) (c .before .before .loop .i) 0) noThread .ticks
+meets c =
+    let s = c .before .before .before .before .before .before .before in
+    let l = s .args .p .records in
+    let e : length l ≡ 32 = sym (length-map l _) ∙ s .good .0 .1 .1 .0 .1 .0 .1 in
+    ⊎-elim (λ w. w .1) (λ w. w .1 ∙ sym (ap (λ (r : Thread). r .ticks) (past-end l noThread e (w .0 .left)))) (c .if1 .came)
 
 size-requires : tie.Need-size-requires Inv-loop μ-loop
 size-requires c κs = search needs
@@ -46,11 +51,14 @@ array-read-t c = search needs
 add-i : tie.Need-add-i Inv-loop μ-loop
 add-i c = search needs
 
-cast-thread-at : tie.Need-cast-thread-at Inv-loop μ-loop
-cast-thread-at c = search needs
+cast-j : tie.Need-cast-j Inv-loop μ-loop
+cast-j c = search needs
 
-thread-at-requires : tie.Need-thread-at-requires Inv-loop μ-loop
-thread-at-requires c κs = search needs
+mul-ticks : tie.Need-mul-ticks Inv-loop μ-loop
+mul-ticks c = search needs
+
+element-copy-out-ticks : tie.Need-element-copy-out-ticks Inv-loop μ-loop
+element-copy-out-ticks c = search needs
 
 time-up-requires : tie.Need-time-up-requires Inv-loop μ-loop
 time-up-requires c κs = search needs
@@ -60,18 +68,18 @@ loop-less c = search needs
 
 loop-again : tie.Need-loop-again Inv-loop μ-loop
 loop-again c =
-    let p = c .before .before .before .before .before .before .before .before .before .before .args .p in
-    let l = c .before .before .before .before .before .loop in
-    rw (c .time-up .ensures) (walk-does timeUp (isDue (p .records)) p (p .time .at) (l .i) (l .inv) (omega arith) (eq-eqb _ _ (sym (ticks (c .before .before .before)) ∙ c .before .if1 .taken)))
+    let p = c .before .before .before .before .before .before .before .before .before .args .p in
+    let l = c .before .before .before .before .loop in
+    rw (c .time-up .ensures) (walk-does timeUp (isDue (p .records)) p (p .time .at) (l .i) (l .inv) (omega arith) (eq-eqb _ _ (sym (meets (c .before .before)) ∙ c .before .if2 .taken)))
 
 loop-less-2 : tie.Need-loop-less-2 Inv-loop μ-loop
 loop-less-2 c = search needs
 
 loop-again-2 : tie.Need-loop-again-2 Inv-loop μ-loop
 loop-again-2 c =
-    let p = c .before .before .before .before .before .before .before .before .before .args .p in
-    let l = c .before .before .before .before .loop in
-    walk-skips timeUp (isDue (p .records)) p (p .time .at) (l .i) (l .inv) (omega arith) (ne-eqb _ _ (λ z. c .if1 .left (ticks (c .before .before) ∙ z)))
+    let p = c .before .before .before .before .before .before .before .before .args .p in
+    let l = c .before .before .before .loop in
+    walk-skips timeUp (isDue (p .records)) p (p .time .at) (l .i) (l .inv) (omega arith) (ne-eqb _ _ (λ z. c .if2 .left (meets (c .before) ∙ z)))
 
 returns : tie.Need-returns Inv-loop μ-loop
 unfolding due
@@ -90,8 +98,9 @@ due-woken-spec =
     loop-holds
     array-read-t
     add-i
-    cast-thread-at
-    thread-at-requires
+    cast-j
+    mul-ticks
+    element-copy-out-ticks
     time-up-requires
     loop-less
     loop-again

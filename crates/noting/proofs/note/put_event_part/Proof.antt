@@ -40,12 +40,12 @@ put-events-requires c κs = search needs
 written : (c : tie.After-put-events) → let a = c .before .before .before .before .before .before .before .before .args in (c .put-events .result ≤ length (c .put-events .last .0)) × (take (c .put-events .result) (c .put-events .last .0) ≡ eventPart (a .c) (a .bits) (a .after) (a .old) (a .new))
 written c =
     let a = c .before .before .before .before .before .before .before .before .args in
-    let e : pen (c .put-events .last .0) (c .put-events .result) ≡ puts (pen (replicate 1100 0) 0) (eventPart (a .c) (a .bits) (a .after) (a .old) (a .new)) =
+    let e : pen (c .put-events .last .0) (c .put-events .result) ≡ puts (pen (replicate 89 0) 0) (eventPart (a .c) (a .bits) (a .after) (a .old) (a .new)) =
     rw puts-append
     (c .put-events .ensures
     ∙ (ap (λ q. puts q (eventEntries (a .old) (a .new) (c .before .before .before .before .before .before .event-span .result .first) (c .before .before .before .before .before .before .event-span .result .count))) (c .before .before .before .put-bits .ensures)
-    ∙ ap (λ x. puts (puts (pen (replicate 1100 0) 0) (cond (eqb (a .bits) (a .after)) [] (8 ∷ []))) (eventEntries (a .old) (a .new) (x .first) (x .count))) (c .before .before .before .before .before .before .event-span .ensures))) in
-    let w = composed (replicate 1100 0) _ _ _ e (rw length-replicate (omega (arith, events-short (a .c) (a .bits) (a .after) (a .old) (a .new)))) in
+    ∙ ap (λ x. puts (puts (pen (replicate 89 0) 0) (cond (eqb (a .bits) (a .after)) [] (8 ∷ []))) (eventEntries (a .old) (a .new) (x .first) (x .count))) (c .before .before .before .before .before .before .event-span .ensures))) in
+    let w = composed (replicate 89 0) _ _ _ e (rw length-replicate (omega (arith, events-short (a .c) (a .bits) (a .after) (a .old) (a .new)))) in
     (w .0, w .1)
 
 array-share-prefix-scratch : tie.Need-array-share-prefix-scratch

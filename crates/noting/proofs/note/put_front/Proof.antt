@@ -14,17 +14,8 @@ slice-aggregate-put-all c = search needs
 put-all-requires : tie.Need-put-all-requires
 put-all-requires c κs = search needs
 
-levels-of-requires : tie.Need-levels-of-requires
-levels-of-requires c κs = search needs
-
-levels-of-requires-2 : tie.Need-levels-of-requires-2
-levels-of-requires-2 c κs = search needs
-
 put-levels-requires : tie.Need-put-levels-requires
 put-levels-requires c κs = search needs
-
-threads-of-requires : tie.Need-threads-of-requires
-threads-of-requires c κs = search needs
 
 put-thread-part-requires : tie.Need-put-thread-part-requires
 put-thread-part-requires c κs = search needs
@@ -39,22 +30,25 @@ put-message-part-requires : tie.Need-put-message-part-requires
 put-message-part-requires c κs = search needs
 
 same-length : tie.Need-same-length
-same-length c = c .before .before .put-message-part .kept .0 ∙ (c .before .before .before .before .before .before .before .before .before .put-event-part .kept .0 ∙ (c .before .before .before .before .before .before .before .before .before .before .before .before .before .before .before .put-semaphore-part .kept .0 ∙ (c .before .before .before .before .before .before .before .before .before .before .before .before .before .before .before .before .before .before .before .before .before .put-thread-part .kept .0 ∙ (c .before .before .before .before .before .before .before .before .before .before .before .before .before .before .before .before .before .before .before .before .before .before .before .before .before .before .before .put-levels .kept .0 ∙ (c .before .before .before .before .before .before .before .before .before .before .before .before .before .before .before .before .before .before .before .before .before .before .before .before .before .before .before .before .before .before .before .before .before .put-all .kept .0)))))
+same-length c =
+    c .before .before .put-message-part .kept .0
+    ∙ (c .before .before .before .before .before .before .put-event-part .kept .0
+    ∙ (c .before .before .before .before .before .before .before .before .before .before .before .before .put-semaphore-part .kept .0
+    ∙ (c .before .before .before .before .before .before .before .before .before .before .before .before .before .before .before .before .put-thread-part .kept .0
+    ∙ (c .before .before .before .before .before .before .before .before .before .before .before .before .before .before .before .before .before .before .before .before .put-levels .kept .0
+    ∙ c .before .before .before .before .before .before .before .before .before .before .before .before .before .before .before .before .before .before .before .before .before .before .before .before .put-all .kept .0))))
 
 returns : tie.Need-returns
 returns c =
-    let a = c .before .before .before .before .before .before .before .before .before .before .before .before .before .before .before .before .before .before .before .before .before .before .before .before .before .before .before .before .before .before .before .before .before .before .before .before .before .before .args in
+    let a = c .before .before .before .before .before .before .before .before .before .before .before .before .before .before .before .before .before .before .before .before .before .before .before .before .before .before .before .before .before .args in
     rw (
       c .before .before .put-message-part .ensures,
-      c .before .before .before .before .before .before .before .before .before .put-event-part .ensures,
-      c .before .before .before .before .before .before .before .before .before .before .before .before .before .before .before .put-semaphore-part .ensures,
-      c .before .before .before .before .before .before .before .before .before .before .before .before .before .before .before .before .before .before .before .before .before .put-thread-part .ensures,
-      c .before .before .before .before .before .before .before .before .before .before .before .before .before .before .before .before .before .before .before .before .before .before .threads-of .ensures,
-      c .before .before .before .before .before .before .before .before .before .before .before .before .before .before .before .before .before .before .before .before .before .before .before .before .before .before .before .put-levels .ensures,
-      c .before .before .before .before .before .before .before .before .before .before .before .before .before .before .before .before .before .before .before .before .before .before .before .before .before .before .before .before .levels-of2 .ensures,
-      c .before .before .before .before .before .before .before .before .before .before .before .before .before .before .before .before .before .before .before .before .before .before .before .before .before .before .before .before .before .levels-of .ensures,
-      c .before .before .before .before .before .before .before .before .before .before .before .before .before .before .before .before .before .before .before .before .before .before .before .before .before .before .before .before .before .before .before .before .before .put-all .ensures,
-      c .before .before .before .before .before .before .before .before .before .before .before .before .before .before .before .before .before .before .before .before .before .before .before .before .before .before .before .before .before .before .before .before .before .before .before .before .call-of .ensures,
+      c .before .before .before .before .before .before .put-event-part .ensures,
+      c .before .before .before .before .before .before .before .before .before .before .before .before .put-semaphore-part .ensures,
+      c .before .before .before .before .before .before .before .before .before .before .before .before .before .before .before .before .put-thread-part .ensures,
+      c .before .before .before .before .before .before .before .before .before .before .before .before .before .before .before .before .before .before .before .before .put-levels .ensures,
+      c .before .before .before .before .before .before .before .before .before .before .before .before .before .before .before .before .before .before .before .before .before .before .before .before .put-all .ensures,
+      c .before .before .before .before .before .before .before .before .before .before .before .before .before .before .before .before .before .before .before .before .before .before .before .before .before .before .before .call-of .ensures,
     )
     (front-puts _ (a .k) (a .t4) (a .k2) (a .value))
 
@@ -65,10 +59,7 @@ put-front-spec =
     call-of-requires
     slice-aggregate-put-all
     put-all-requires
-    levels-of-requires
-    levels-of-requires-2
     put-levels-requires
-    threads-of-requires
     put-thread-part-requires
     put-semaphore-part-requires
     put-event-part-requires

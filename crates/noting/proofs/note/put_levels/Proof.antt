@@ -21,9 +21,9 @@ put-scheduler-requires c κs = search needs
 written : (c : tie.After-put-scheduler) → let a = c .before .before .before .args in (c .put-scheduler .result ≤ length (c .put-scheduler .last .0)) × (take (c .put-scheduler .result) (c .put-scheduler .last .0) ≡ levelsNoted (a .c) (a .old) (a .new))
 written c =
     let a = c .before .before .before .args in
-    let e : pen (c .put-scheduler .last .0) (c .put-scheduler .result) ≡ puts (pen (replicate 1100 0) 0) (levelsNoted (a .c) (a .old) (a .new)) =
+    let e : pen (c .put-scheduler .last .0) (c .put-scheduler .result) ≡ puts (pen (replicate 4 0) 0) (levelsNoted (a .c) (a .old) (a .new)) =
     c .put-scheduler .ensures in
-    let w = composed (replicate 1100 0) _ _ _ e (rw length-replicate (omega (arith, levels-short (a .c) (a .old) (a .new)))) in
+    let w = composed (replicate 4 0) _ _ _ e (rw length-replicate (omega (arith, levels-short (a .c) (a .old) (a .new)))) in
     (w .0, w .1)
 
 array-share-prefix-scratch : tie.Need-array-share-prefix-scratch

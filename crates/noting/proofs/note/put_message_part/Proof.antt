@@ -1,4 +1,5 @@
 -- `noting::note::put_message_part` meets its contract: the part is written to a scratch array that is long enough, and then behind its length.
+use Rattle.kernel.specs.Standing.{postsOf}
 use Rattle.notes.specs.Spans.{messageSpan}
 use Rattle.writing.specs.Tables.{messageEntries}
 use Rattle.noting.specs.Parts.{messagePart}
@@ -42,12 +43,12 @@ put-messages-requires : tie.Need-put-messages-requires
 put-messages-requires c κs = search needs
 
 -- what the scratch array holds is the part
-written : (c : tie.After-put-messages) → let a = c .before .before .before .before .before .before .before .args in (c .put-messages .result ≤ length (c .put-messages .last .0)) × (take (c .put-messages .result) (c .put-messages .last .0) ≡ messagePart (a .c) (a .runner) (a .old) (a .new) (a .value))
+written : (c : tie.After-put-messages) → let a = c .before .before .before .before .before .before .before .before .before .before .args in (c .put-messages .result ≤ length (c .put-messages .last .0)) × (take (c .put-messages .result) (c .put-messages .last .0) ≡ messagePart (a .c) (a .k2 .runner) (postsOf (a .k)) (a .k2 .messages) (a .value))
 written c =
-    let a = c .before .before .before .before .before .before .before .args in
-    let e : pen (c .put-messages .last .0) (c .put-messages .result) ≡ puts (pen (replicate 1100 0) 0) (messagePart (a .c) (a .runner) (a .old) (a .new) (a .value)) =
-    c .put-messages .ensures ∙ ap (λ x. puts (pen (replicate 1100 0) 0) (messageEntries (a .c) (a .runner) (a .old) (a .new) (x .first) (x .count))) (c .before .before .before .before .before .message-span .ensures) in
-    let w = composed (replicate 1100 0) _ _ _ e (rw length-replicate (omega (arith, messages-short (a .c) (a .runner) (a .old) (a .new) (a .value)))) in
+    let a = c .before .before .before .before .before .before .before .before .before .before .args in
+    let e : pen (c .put-messages .last .0) (c .put-messages .result) ≡ puts (pen (replicate 1088 0) 0) (messagePart (a .c) (a .k2 .runner) (postsOf (a .k)) (a .k2 .messages) (a .value)) =
+    c .put-messages .ensures ∙ ap (λ x. puts (pen (replicate 1088 0) 0) (messageEntries (a .c) (a .k2 .runner) (postsOf (a .k)) (a .k2 .messages) (x .first) (x .count))) (c .before .before .before .before .before .before .before .before .message-span .ensures) in
+    let w = composed (replicate 1088 0) _ _ _ e (rw length-replicate (omega (arith, messages-short (a .c) (a .k2 .runner) (postsOf (a .k)) (a .k2 .messages) (a .value)))) in
     (w .0, w .1)
 
 array-share-prefix-scratch : tie.Need-array-share-prefix-scratch

@@ -42,12 +42,12 @@ put-semaphores-requires : tie.Need-put-semaphores-requires
 put-semaphores-requires c κs = search needs
 
 -- what the scratch array holds is the part
-written : (c : tie.After-put-semaphores) → let a = c .before .before .before .before .before .before .before .args in (c .put-semaphores .result ≤ length (c .put-semaphores .last .0)) × (take (c .put-semaphores .result) (c .put-semaphores .last .0) ≡ semaphorePart (a .c) (a .old) (a .new) (a .value))
+written : (c : tie.After-put-semaphores) → let a = c .before .before .before .before .before .before .before .before .before .args in (c .put-semaphores .result ≤ length (c .put-semaphores .last .0)) × (take (c .put-semaphores .result) (c .put-semaphores .last .0) ≡ semaphorePart (a .c) (a .k .semaphores) (a .k2 .semaphores) (a .value))
 written c =
-    let a = c .before .before .before .before .before .before .before .args in
-    let e : pen (c .put-semaphores .last .0) (c .put-semaphores .result) ≡ puts (pen (replicate 1100 0) 0) (semaphorePart (a .c) (a .old) (a .new) (a .value)) =
-    c .put-semaphores .ensures ∙ ap (λ x. puts (pen (replicate 1100 0) 0) (semaphoreEntries (a .c) (a .old) (a .new) (x .first) (x .count))) (c .before .before .before .before .before .semaphore-span .ensures) in
-    let w = composed (replicate 1100 0) _ _ _ e (rw length-replicate (omega (arith, semaphores-short (a .c) (a .old) (a .new) (a .value)))) in
+    let a = c .before .before .before .before .before .before .before .before .before .args in
+    let e : pen (c .put-semaphores .last .0) (c .put-semaphores .result) ≡ puts (pen (replicate 240 0) 0) (semaphorePart (a .c) (a .k .semaphores) (a .k2 .semaphores) (a .value)) =
+    c .put-semaphores .ensures ∙ ap (λ x. puts (pen (replicate 240 0) 0) (semaphoreEntries (a .c) (a .k .semaphores) (a .k2 .semaphores) (x .first) (x .count))) (c .before .before .before .before .before .before .before .semaphore-span .ensures) in
+    let w = composed (replicate 240 0) _ _ _ e (rw length-replicate (omega (arith, semaphores-short (a .c) (a .k .semaphores) (a .k2 .semaphores) (a .value)))) in
     (w .0, w .1)
 
 array-share-prefix-scratch : tie.Need-array-share-prefix-scratch

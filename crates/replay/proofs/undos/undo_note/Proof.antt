@@ -1,16 +1,16 @@
 use Prim.Native.Nat.{ℕ}
 use mathlib.Core.Path.{_≡_, sym, ap, _∙_}
 use mathlib.Core.List.{List}
-use mathlib.Core.Bool.{true, false}
+use mathlib.Core.Bool.{true}
 use borrow.Author.Tests.{not-true, not-false}
 use Rattle.kernel.specs.declared.records.Kernel.{Kernel}
 use Rattle.calls.specs.declared.call.Call.{Call}
 use Rattle.calls.specs.Calls.{callOf}
-use Rattle.notes.specs.Back.{stateBefore}
+use Rattle.notes.specs.Back.{Sections, stateBefore}
 use Rattle.notes.specs.Frames.{nothing, sections, framesOf}
 use Rattle.notes.specs.Undoes.{recordIn, levelsFit, yieldsAgain}
 use Rattle.reading.specs.declared.frames.Decoded.{Decoded}
-use Rattle.reading.specs.Meant.{sectionsMeant, meant, recordOf}
+use Rattle.reading.specs.Meant.{sectionsMeant, meant}
 use Rattle.reading.specs.Restored.{backOf}
 use Rattle.reading.proofs.Framing.{record-whole}
 use Rattle.replay.specs.Steps.{answer}
@@ -48,21 +48,53 @@ call-of-requires c κs = search needs
 state-before-requires : tie.Need-state-before-requires
 state-before-requires c κs = search needs
 
+-- where the note has its sections: the state and the note that came in, the sections, the earlier state
+abbrev k₀ : tie.After-f → Kernel
+k₀ c = c .before .before .before .before .args .k
+
+abbrev note₀ : tie.After-f → List ℕ
+note₀ c = c .before .before .before .before .args .note .now
+
+abbrev parts : tie.After-f → Sections
+parts c = sectionsMeant (c .f .given .0 .0) (note₀ c)
+
+abbrev old : tie.After-f → Kernel
+old c = stateBefore (callOf (recordIn (note₀ c))) (k₀ c) (parts c)
+
+framed : (c : tie.After-f) → framesOf (note₀ c) ≡ sections (parts c)
+framed c = sym (c .before .before .frames-of .ensures) ∙ ap (λ (d : Decoded). meant d (note₀ c)) (c .f .given .1)
+
+-- the call record
+record-read : (c : tie.After-record-in) → c .record-in .result ≡ recordIn (note₀ (c .before .before))
+record-read c =
+    let f = c .before .before in c .record-in .ensures ∙ record-whole (note₀ f) (framed-size (k₀ f) (note₀ f) (parts f) (framed f))
+
+-- what is read back, where its levels fit
+state-read : (c : tie.After-state-before) → let k = old (c .before .before .before .before) in
+    (c .state-before .result .fits ≡ levelsFit k) × (levelsFit k ≡ true → c .state-before .result .kernel ≡ k)
+state-read c =
+    let f = c .before .before .before .before in
+    back-parts (callOf (recordIn (note₀ f))) (k₀ f) (parts f) (c .state-before .result)
+    (c .state-before .ensures ∙ ap (λ (y : Call). backOf y (k₀ f) (parts f)) (c .before .call-of .ensures ∙ ap callOf (record-read (c .before .before))))
+
+-- and what running the call again finds
+run-again : (c : tie.After-yields-again) → let f = c .before .before .before .before .before .before .before .before in
+    (c .before .before .before .before .state-before .result .kernel ≡ old f) × (c .yields-again .result ≡ yieldsAgain (old f) (recordIn (note₀ f)) (k₀ f) (note₀ f))
+run-again c =
+    let f = c .before .before .before .before .before .before .before .before in
+    let (fits, kernel) = state-read (c .before .before .before .before) in
+    let l = sym fits ∙ not-false (c .before .before .before .before .state-before .result .fits) (c .before .before .if1 .left) in
+    (kernel l, c .yields-again .ensures (ap levelsFit (kernel l) ∙ l) ∙ rw (kernel l, record-read (c .before .before .before .before .before .before)))
+
 refused-requires-2 : tie.Need-refused-requires-2
 refused-requires-2 c κs = search needs
 
 returns-2 : tie.Need-returns-2
 returns-2 c =
-    let a = c .before .before .before .before .before .before .before .before .before .before .before .args in
-    let note = a .note .now in
-    let x = sectionsMeant (c .before .before .before .before .before .before .before .f .given .0 .0) note in
-    let e : framesOf note ≡ sections x = sym (c .before .before .before .before .before .before .before .before .before .frames-of .ensures) ∙ ap (λ (d : Decoded). meant d note) (c .before .before .before .before .before .before .before .f .given .1) in
-    let w : recordOf note ≡ recordIn note = record-whole note (framed-size (a .k) note x e) in
-    let b : c .before .before .before .before .before .record-in .result ≡ recordIn note = c .before .before .before .before .before .record-in .ensures ∙ w in
-    let d : c .before .before .before .before .call-of .result ≡ callOf (recordIn note) = c .before .before .before .before .call-of .ensures ∙ ap callOf b in
-    let (fits, kernel) = back-parts (callOf (recordIn note)) (a .k) x (c .before .before .before .state-before .result) (c .before .before .before .state-before .ensures ∙ ap (λ (y : Call). backOf y (a .k) x) d) in
+    let f = c .before .before .before .before .before .before .before in
+    let a = f .before .before .before .before .args in
     c .refused2 .ensures
-    ∙ left-unfit (a .k) note x e (a .before) (a .used) (sym fits ∙ not-true (c .before .before .before .state-before .result .fits) (c .before .if1 .taken))
+    ∙ left-unfit (a .k) (note₀ f) (parts f) (framed f) (a .before) (a .used) (sym (state-read (c .before .before .before) .0) ∙ not-true (c .before .before .before .state-before .result .fits) (c .before .if1 .taken))
 
 yields-again-requires : tie.Need-yields-again-requires
 yields-again-requires c κs = search needs
@@ -72,44 +104,18 @@ refused-requires-3 c κs = search needs
 
 returns-3 : tie.Need-returns-3
 returns-3 c =
-    let a = c .before .before .before .before .before .before .before .before .before .before .before .before .before .before .args in
-    let note = a .note .now in
-    let x = sectionsMeant (c .before .before .before .before .before .before .before .before .before .before .f .given .0 .0) note in
-    let e : framesOf note ≡ sections x = sym (c .before .before .before .before .before .before .before .before .before .before .before .before .frames-of .ensures) ∙ ap (λ (d : Decoded). meant d note) (c .before .before .before .before .before .before .before .before .before .before .f .given .1) in
-    let w : recordOf note ≡ recordIn note = record-whole note (framed-size (a .k) note x e) in
-    let b : c .before .before .before .before .before .before .before .before .record-in .result ≡ recordIn note = c .before .before .before .before .before .before .before .before .record-in .ensures ∙ w in
-    let d : c .before .before .before .before .before .before .before .call-of .result ≡ callOf (recordIn note) = c .before .before .before .before .before .before .before .call-of .ensures ∙ ap callOf b in
-    let (fits, kernel) = back-parts (callOf (recordIn note)) (a .k) x (c .before .before .before .before .before .before .state-before .result) (c .before .before .before .before .before .before .state-before .ensures ∙ ap (λ (y : Call). backOf y (a .k) x) d) in
-    let l = sym fits ∙ not-false (c .before .before .before .before .before .before .state-before .result .fits) (c .before .before .before .before .if1 .left) in
-    let old = stateBefore (callOf (recordIn note)) (a .k) x in
-    let t = c .before .before .yields-again in
-    let same : c .before .before .before .before .before .before .state-before .result .kernel ≡ old = kernel l in
-    let y : t .result ≡ yieldsAgain old (recordIn note) (a .k) note =
-    t .ensures (ap levelsFit same ∙ l)
-    ∙ ap (λ (u : Kernel). yieldsAgain u (c .before .before .before .before .before .before .before .before .record-in .result) (a .k) note) same
-    ∙ ap (λ (y : List ℕ). yieldsAgain old y (a .k) note) b in
-    c .refused3 .ensures ∙ left-other (a .k) note x e (a .before) (a .used) (sym y ∙ not-true (t .result) (c .before .if2 .taken))
+    let f = c .before .before .before .before .before .before .before .before .before .before in
+    let a = f .before .before .before .before .args in
+    c .refused3 .ensures
+    ∙ left-other (a .k) (note₀ f) (parts f) (framed f) (a .before) (a .used) (sym (run-again (c .before .before) .1) ∙ not-true (c .before .before .yields-again .result) (c .before .if2 .taken))
 
 returns-4 : tie.Need-returns-4
 returns-4 c =
-    let a = c .before .before .before .before .before .before .before .before .before .before .before .before .before .args in
-    let note = a .note .now in
-    let x = sectionsMeant (c .before .before .before .before .before .before .before .before .before .f .given .0 .0) note in
-    let e : framesOf note ≡ sections x = sym (c .before .before .before .before .before .before .before .before .before .before .before .frames-of .ensures) ∙ ap (λ (d : Decoded). meant d note) (c .before .before .before .before .before .before .before .before .before .f .given .1) in
-    let w : recordOf note ≡ recordIn note = record-whole note (framed-size (a .k) note x e) in
-    let b : c .before .before .before .before .before .before .before .record-in .result ≡ recordIn note = c .before .before .before .before .before .before .before .record-in .ensures ∙ w in
-    let d : c .before .before .before .before .before .before .call-of .result ≡ callOf (recordIn note) = c .before .before .before .before .before .before .call-of .ensures ∙ ap callOf b in
-    let (fits, kernel) = back-parts (callOf (recordIn note)) (a .k) x (c .before .before .before .before .before .state-before .result) (c .before .before .before .before .before .state-before .ensures ∙ ap (λ (y : Call). backOf y (a .k) x) d) in
-    let l = sym fits ∙ not-false (c .before .before .before .before .before .state-before .result .fits) (c .before .before .before .if1 .left) in
-    let old = stateBefore (callOf (recordIn note)) (a .k) x in
-    let t = c .before .yields-again in
-    let same : c .before .before .before .before .before .state-before .result .kernel ≡ old = kernel l in
-    let y : t .result ≡ yieldsAgain old (recordIn note) (a .k) note =
-    t .ensures (ap levelsFit same ∙ l)
-    ∙ ap (λ (u : Kernel). yieldsAgain u (c .before .before .before .before .before .before .before .record-in .result) (a .k) note) same
-    ∙ ap (λ (y : List ℕ). yieldsAgain old y (a .k) note) b in
+    let f = c .before .before .before .before .before .before .before .before .before in
+    let a = f .before .before .before .before .args in
+    let (same, y) = run-again (c .before) in
     ap (λ (u : Kernel). logged (answer 0 255 (u .runner)) u (a .before)) same
-    ∙ left-back (a .k) note x e (a .before) (a .used) (sym y ∙ not-false (t .result) (c .if2 .left))
+    ∙ left-back (a .k) (note₀ f) (parts f) (framed f) (a .before) (a .used) (sym y ∙ not-false (c .before .yields-again .result) (c .if2 .left))
 
 pub undo-note-spec : {M : Type 1} → statement M
 undo-note-spec =

@@ -1,4 +1,4 @@
--- `coding::rows::flags_of` meets its contract. The fields are compared from the last to the first: so far the flags are those of the
+-- `coding::row_bytes::flags_of` meets its contract. The fields are compared from the last to the first: so far the flags are those of the
 -- fields from i on.
 use Prim.Native.Nat.{_+_, _-_, _*_, _≤_, _<_}
 use mathlib.Core.Path.{_≡_, sym, _∙_}
@@ -7,8 +7,8 @@ use lib.ListN.{length, getD, drop}
 use borrow.Author.Needs.{needs}
 use Rattle.coding.specs.Rows.{flagOf, flagsOf}
 use Rattle.coding.proofs.Turns.{flags-next, flags-byte, flags-end}
-use Rattle.coding.proofs.rows.flags_of.Statement.{statement}
-use Rattle.coding.proofs.rows.flags_of.Tie as tie
+use Rattle.coding.proofs.row_bytes.flags_of.Statement.{statement}
+use Rattle.coding.proofs.row_bytes.flags_of.Tie as tie
 
 abbrev Inv-loop : tie.InvT-loop
 Inv-loop old predicted flags₀ i₀ flags i = (i ≤ 8) × (length old ≡ 8) × (length predicted ≡ 8) × (flags ≡ flagsOf (drop i old) (drop i predicted))

@@ -1,4 +1,4 @@
--- `coding::rows::used_by` meets its contract: what is still to count are the fields from i on.
+-- `coding::row_bytes::used_by` meets its contract: what is still to count are the fields from i on.
 use Prim.Native.Nat.{_+_, _-_, _*_, _≤_}
 use mathlib.Core.Path.{_≡_}
 use native.Mathlib.Omega.{arith}
@@ -6,8 +6,8 @@ use lib.ListN.{length, drop}
 use borrow.Author.Needs.{needs}
 use Rattle.coding.specs.Rows.{usedBy}
 use Rattle.coding.proofs.Turns.{used-next, used-end}
-use Rattle.coding.proofs.rows.used_by.Statement.{statement}
-use Rattle.coding.proofs.rows.used_by.Tie as tie
+use Rattle.coding.proofs.row_bytes.used_by.Statement.{statement}
+use Rattle.coding.proofs.row_bytes.used_by.Tie as tie
 
 abbrev Inv-loop : tie.InvT-loop
 Inv-loop flags widths used₀ left₀ i₀ used left i = (i ≤ 8) × (length widths ≡ 8) × (used ≤ 255 * i) × (usedBy widths flags ≡ used + usedBy (drop i widths) left)

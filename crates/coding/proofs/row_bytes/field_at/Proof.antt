@@ -1,8 +1,8 @@
--- `coding::rows::field_at` meets its contract: the test is that of `flagged`.
+-- `coding::row_bytes::field_at` meets its contract: the test is that of `flagged`.
 use borrow.Author.Needs.{needs}
 use borrow.Author.Tests.{eq-eqb, ne-eqb}
-use Rattle.coding.proofs.rows.field_at.Statement.{statement}
-use Rattle.coding.proofs.rows.field_at.Tie as tie
+use Rattle.coding.proofs.row_bytes.field_at.Statement.{statement}
+use Rattle.coding.proofs.row_bytes.field_at.Tie as tie
 
 number-at-requires : tie.Need-number-at-requires
 number-at-requires c κs = search needs

@@ -1,7 +1,7 @@
--- `coding::rows::taken_by` meets its contract: the test is that of `taken`.
+-- `coding::row_bytes::taken_by` meets its contract: the test is that of `taken`.
 use borrow.Author.Tests.{eq-eqb, ne-eqb}
-use Rattle.coding.proofs.rows.taken_by.Statement.{statement}
-use Rattle.coding.proofs.rows.taken_by.Tie as tie
+use Rattle.coding.proofs.row_bytes.taken_by.Statement.{statement}
+use Rattle.coding.proofs.row_bytes.taken_by.Tie as tie
 
 returns : tie.Need-returns
 returns c = rw (eq-eqb _ _ (c .if1 .taken))

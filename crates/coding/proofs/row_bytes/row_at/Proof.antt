@@ -1,4 +1,4 @@
--- `coding::rows::row_at` meets its contract: the fields before i are read, and what is still to come is the row of the others. A place
+-- `coding::row_bytes::row_at` meets its contract: the fields before i are read, and what is still to come is the row of the others. A place
 -- that begins within the bytes and goes on by at most eight widths fits its type.
 use Prim.Native.Nat.{_+_, _-_, _*_, _≤_}
 use mathlib.Core.Path.{_≡_, _∙_}
@@ -8,8 +8,8 @@ use lib.ListN.{length, drop, take, length-set}
 use borrow.Author.Needs.{needs}
 use Rattle.coding.specs.Rows.{rowFrom, cut}
 use Rattle.coding.proofs.Turns.{drop-least, row-next, row-end, filled-next, filled-end}
-use Rattle.coding.proofs.rows.row_at.Statement.{statement}
-use Rattle.coding.proofs.rows.row_at.Tie as tie
+use Rattle.coding.proofs.row_bytes.row_at.Statement.{statement}
+use Rattle.coding.proofs.row_bytes.row_at.Tie as tie
 
 abbrev Inv-loop : tie.InvT-loop
 Inv-loop s at flags widths predicted fields₀ p₀ left₀ i₀ fields p left i =

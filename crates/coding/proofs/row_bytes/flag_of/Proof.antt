@@ -1,7 +1,7 @@
--- `coding::rows::flag_of` meets its contract: the test is that of `flagOf`.
+-- `coding::row_bytes::flag_of` meets its contract: the test is that of `flagOf`.
 use borrow.Author.Tests.{eq-eqb, ne-eqb}
-use Rattle.coding.proofs.rows.flag_of.Statement.{statement}
-use Rattle.coding.proofs.rows.flag_of.Tie as tie
+use Rattle.coding.proofs.row_bytes.flag_of.Statement.{statement}
+use Rattle.coding.proofs.row_bytes.flag_of.Tie as tie
 
 returns : tie.Need-returns
 returns c = rw (eq-eqb _ _ (c .if1 .taken))

@@ -1,4 +1,4 @@
--- `coding::rows::put_body` meets its contract: what is still to write is the body of the fields from i on.
+-- `coding::row_bytes::put_body` meets its contract: what is still to write is the body of the fields from i on.
 use Prim.Native.Nat.{_+_, _-_, _≤_}
 use mathlib.Core.Path.{_≡_, refl, sym, _∙_}
 use native.Mathlib.Omega.{arith}
@@ -8,8 +8,8 @@ use Rattle.coding.specs.Pens.{pen, puts}
 use Rattle.coding.specs.Rows.{bodyOf}
 use Rattle.coding.proofs.Writing.{puts-append}
 use Rattle.coding.proofs.Turns.{body-next, body-end}
-use Rattle.coding.proofs.rows.put_body.Statement.{statement}
-use Rattle.coding.proofs.rows.put_body.Tie as tie
+use Rattle.coding.proofs.row_bytes.put_body.Statement.{statement}
+use Rattle.coding.proofs.row_bytes.put_body.Tie as tie
 
 abbrev Inv-loop : tie.InvT-loop
 Inv-loop log₀ at widths old predicted p₀ i₀ log p i =

@@ -1,9 +1,9 @@
--- `coding::rows::put_field` meets its contract: the test is that of `fieldOf`.
+-- `coding::row_bytes::put_field` meets its contract: the test is that of `fieldOf`.
 use borrow.Author.Needs.{needs}
 use borrow.Author.Tests.{eq-eqb, ne-eqb}
 use Rattle.coding.specs.Pens.{puts}
-use Rattle.coding.proofs.rows.put_field.Statement.{statement}
-use Rattle.coding.proofs.rows.put_field.Tie as tie
+use Rattle.coding.proofs.row_bytes.put_field.Statement.{statement}
+use Rattle.coding.proofs.row_bytes.put_field.Tie as tie
 
 returns : tie.Need-returns
 unfolding puts
