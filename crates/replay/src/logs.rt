@@ -13,13 +13,13 @@ use noting::note;
 
 // The answer, the next state (an undo: the earlier one), and how much of the log is used then.
 pub struct Logged {
-    pub answer: Answer,
     pub kernel: Kernel,
+    pub answer: Answer,
     pub used: usize,
 }
 
 // A refusal: the state and the used length stay.
-pub fn refused(number: u8, runner: u8, k: Kernel, used: usize) -> Logged
+pub(crate) fn refused(number: u8, runner: u8, k: Kernel, used: usize) -> Logged
     ensures { λ r. ⌜ r ≡ logged (answer number 255 runner) k used ⌝ }
 {
     Logged {

@@ -3,9 +3,9 @@ ghost use mathlib.Core.Path.{_≡_};
 ghost use Rattle.replay.specs.Steps.{nextState, step, called};
 use calls::call;
 use calls::call::Call;
-use kernel::records;
 use kernel::records::Kernel;
 use kernel::runner;
+use seek::records;
 
 // What comes back of a call: a number, a value, and who runs (255 for none).
 pub struct Answer {
@@ -14,24 +14,21 @@ pub struct Answer {
     pub runner: u8,
 }
 
-// The answer and the next state.
+// The next state and the answer. The state comes first, here and below: behind three bytes the compiler copies it once more.
 pub struct Stepped {
-    pub answer: Answer,
     pub kernel: Kernel,
+    pub answer: Answer,
 }
 
 // The state after a call that is not refused: what the call does, then who runs.
-pub fn next_state(k: Kernel, c: Call) -> Kernel
+pub(crate) fn next_state(k: Kernel, c: Call) -> Kernel
     ensures { λ r. ⌜ r ≡ nextState k c ⌝ }
 {
     let mut next = acting::effect(k, c);
     let q = next.places;
     let first = queue::first(q);
-    let mut r = records::no_thread();
-    if first < 32 {
-        let i = first as usize;
-        r = next.threads[i];
-    }
+    let threads = next.threads;
+    let r = records::thread_at(threads, first as u16);
     next.runner = runner::runner_of(next.unscheduled, next.critical, next.runner, first, r);
     next
 }
