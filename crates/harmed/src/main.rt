@@ -1,8 +1,20 @@
-// Harm: the records of standard input on one state with one log. After each record the program damages the state, the last note
-// and the used length in turn, calls the public entries with the record that follows, and counts what they answer. `wrong` counts the
-// checks that failed: a broken state is answered with 14, 255, 255, a damaged note with 15 or by undoing what would write it again,
-// and no refusal touches the state, the used length or one byte of the log.
-use coding::bytes::byte_at;
+// Damaged states. The records of standard input run from the fresh state, with one log of 16384 bytes. Before each record every
+// field of the state is damaged in turn: the field of one record, one table or the state itself gets a value that a generator draws, and
+// so does the record's id or the table's place. The record is then tried on the damaged state through every public entry:
+// step::called, logs::called, logs::append and undos::undo. Most trials have the log's own used length, some 0, some one beyond its end.
+//
+// What must come back. Where tested::keeps_rules says that the damage broke a state rule: from every entry the number 14, value 255,
+// runner 255, the damaged state and the used length as they were, from append an empty part. Where no rule is broken: with the log
+// the same answer and the same state as without it, or 13 where the used length is beyond the log; a refusal with value 255, the
+// runner, the state and the used length as they were; after an accepted call an undo that gives back number 0, value 255 and the damaged
+// state to the last field; from append a part as long as the note. After every trial the log is to the last byte what it was, but for the
+// note of an accepted call between the used lengths before and after.
+// A trial in which anything else comes back is wrong, and counted once. So is a record of the run that wrote more than its note.
+//
+// A line for the records of the run and one for the damaged states: how many were tried, and how many of them were broken (14),
+// refused for another reason, and accepted. Threads have 7 fields, semaphores 5, events 3, messages 7, the tables 6 (length and one place
+// of each of three), and the state 5 more (bits, uptime, two levels, runner): 33 times the number of records is tried. The last line has
+// all wrong ones; it must be 0. How many are broken, refused or accepted depends on what was drawn.
 use coding::bytes::same_bytes;
 use coding::pens;
 use kernel::records::Condition;
@@ -17,79 +29,63 @@ use reading::last;
 use replay::logs;
 use replay::logs::Logged;
 use replay::step;
+use replay::step::Answer;
 use replay::undos;
 
-// One trial: the number that came back, and how many of its checks failed.
-struct Outcome {
-    number: u8,
-    wrong: u64,
+// One damage: the field's number, the id or place, and the value.
+struct Damage {
+    field: u8,
+    id: usize,
+    value: u32,
 }
 
-// The trials of one sort: those on a broken state, those refused for another reason, those accepted, and the failed checks.
+// One trial: the number that came back, the used length after it, and whether all was right.
+struct Outcome {
+    number: u8,
+    end: usize,
+    right: bool,
+}
+
+// What came back of so many calls.
 struct Tally {
     broken: u64,
     refused: u64,
     accepted: u64,
-    wrong: u64,
 }
 
-// All trials, and where the generator of damage stands.
+// The records of the run, the trials on damaged states, those that were wrong, and where the generator stands.
 struct Harm {
     records: Tally,
     states: Tally,
-    flips: Tally,
-    lengths: Tally,
-    calls: Tally,
+    wrong: u64,
     dice: u64,
-}
-
-// Where a run stands.
-struct Run {
-    kernel: Kernel,
-    used: usize,
-    harm: Harm,
 }
 
 // ---- counting
 
-fn nothing() -> Tally {
-    Tally {
-        broken: 0,
-        refused: 0,
-        accepted: 0,
-        wrong: 0,
+fn tallied(t: Tally, number: u8) -> Tally {
+    match number {
+        0 => Tally {
+            accepted: std::num::wrapping_add_u64(t.accepted, 1),
+            ..t
+        },
+        14 => Tally {
+            broken: std::num::wrapping_add_u64(t.broken, 1),
+            ..t
+        },
+        _ => Tally {
+            refused: std::num::wrapping_add_u64(t.refused, 1),
+            ..t
+        },
     }
 }
 
-// One more failed check, unless it holds.
-fn checked(wrong: u64, holds: bool) -> u64 {
-    if holds {
+// One more that was wrong, unless it was right.
+fn judged(wrong: u64, right: bool) -> u64 {
+    if right {
         return wrong;
     }
     std::num::wrapping_add_u64(wrong, 1)
-}
-
-// The trial with one check more.
-fn held(o: Outcome, holds: bool) -> Outcome {
-    Outcome {
-        number: o.number,
-        wrong: checked(o.wrong, holds),
-    }
-}
-
-fn counted(t: Tally, o: Outcome) -> Tally {
-    let mut next = t;
-    next.wrong = std::num::wrapping_add_u64(t.wrong, o.wrong);
-    if o.number == 14 {
-        next.broken = std::num::wrapping_add_u64(t.broken, 1);
-        return next;
-    }
-    if o.number == 0 {
-        next.accepted = std::num::wrapping_add_u64(t.accepted, 1);
-        return next;
-    }
-    next.refused = std::num::wrapping_add_u64(t.refused, 1);
-    next
 }
 
 // ---- damage
@@ -101,205 +97,161 @@ fn thrown(dice: u64) -> u64 {
     b ^ (b << 17)
 }
 
-// A small or a large number.
-fn value_of(r: u64) -> u32 {
-    let n = (r % 4294967296) as u32;
-    let size = n % 8;
-    match size {
-        0 => n / 8 % 2,
-        1 | 2 => n / 8 % 8,
-        3 => n / 8 % 34,
-        4 => n / 8 % 256,
-        5 => n / 8 % 65536,
-        6 => 255,
-        _ => n,
+// The used length of a trial: mostly the log's own.
+fn length_of(r: u64, used: usize) -> usize {
+    match r % 16 {
+        0 => 0,
+        1 => 16385,
+        2 => 18446744073709551615,
+        _ => used,
     }
 }
 
-// An id below 64, mostly a low one: those are live.
-fn id_of(r: u64) -> usize {
-    if r % 4 == 0 {
-        return (r / 4 % 64) as usize;
-    }
-    (r / 4 % 8) as usize
-}
-
-fn damaged_thread(r: Thread, field: u8, v: u32) -> Thread {
-    let b = (v % 256) as u8;
-    match field {
-        0 => Thread { live: !r.live, ..r },
-        1 => Thread { priority: b, ..r },
-        2 | 3 => Thread { first: b, ..r },
-        4 | 5 => Thread { ticks: v, ..r },
-        6 | 7 => Thread { reply: b, ..r },
-        8 => Thread {
-            condition: Condition::Ready,
-            ..r
-        },
-        9 => Thread {
-            condition: Condition::Asleep,
-            ..r
-        },
-        10 => Thread {
-            condition: Condition::ForSemaphore(b),
-            ..r
-        },
-        11 => Thread {
-            condition: Condition::ForEvent(b),
-            ..r
-        },
-        12 | 13 => Thread {
-            condition: Condition::ForMessage((v % 65536) as u16),
-            ..r
-        },
-        _ => Thread {
-            wake: Wake::Met,
-            ..r
-        },
+// The damage to a field by the generator's number. Low ids are the likelier ones, since those are live, and small values are as likely
+// as large ones.
+fn damage_of(field: u8, r: u64) -> Damage {
+    Damage {
+        field: field,
+        id: ((r >> 20) % 64 >> (r >> 26) % 4) as usize,
+        value: ((r >> 32) % 4294967296) as u32 >> (r >> 27) % 32,
     }
 }
 
-fn damaged_semaphore(r: Semaphore, field: u8, v: u32) -> Semaphore {
-    let h = (v % 65536) as u16;
-    match field {
-        0 => Semaphore { live: !r.live, ..r },
-        1 | 2 | 3 => Semaphore { count: h, ..r },
-        4 | 5 | 6 => Semaphore { maximum: h, ..r },
-        7 | 8 | 9 => Semaphore { ticks: v, ..r },
-        _ => Semaphore { period: v, ..r },
+// A field after the damage: its number says whether it is struck.
+fn byte(d: Damage, field: u8, old: u8) -> u8 {
+    if d.field == field {
+        return (d.value % 256) as u8;
+    }
+    old
+}
+
+fn half(d: Damage, field: u8, old: u16) -> u16 {
+    if d.field == field {
+        return (d.value % 65536) as u16;
+    }
+    old
+}
+
+fn word(d: Damage, field: u8, old: u32) -> u32 {
+    if d.field == field {
+        return d.value;
+    }
+    old
+}
+
+fn condition(d: Damage, field: u8, old: Condition) -> Condition {
+    if d.field != field {
+        return old;
+    }
+    let v = d.value / 5;
+    match d.value % 5 {
+        0 => Condition::Ready,
+        1 => Condition::Asleep,
+        2 => Condition::ForSemaphore((v % 256) as u8),
+        3 => Condition::ForEvent((v % 256) as u8),
+        _ => Condition::ForMessage((v % 65536) as u16),
     }
 }
 
-fn damaged_event(r: Event, field: u8, v: u32) -> Event {
-    match field {
-        0 | 1 | 2 => Event { any: !r.any, ..r },
-        3 | 4 | 5 | 6 | 7 => Event { mask: v, ..r },
-        _ => Event { values: v, ..r },
+fn wake(d: Damage, field: u8, old: Wake) -> Wake {
+    if d.field == field {
+        return Wake::Met;
+    }
+    old
+}
+
+fn damaged_thread(r: Thread, d: Damage) -> Thread {
+    let c = r.condition;
+    let w = r.wake;
+    Thread {
+        live: r.live != (d.field == 0),
+        priority: byte(d, 1, r.priority),
+        first: byte(d, 2, r.first),
+        condition: condition(d, 3, c),
+        ticks: word(d, 4, r.ticks),
+        wake: wake(d, 5, w),
+        reply: byte(d, 6, r.reply),
     }
 }
 
-fn damaged_message(r: Message, field: u8, v: u32) -> Message {
-    let b = (v % 256) as u8;
-    match field {
-        0 => Message { live: !r.live, ..r },
-        1 | 2 | 3 | 4 => Message { owner: b, ..r },
-        5 | 6 | 7 | 8 => Message { sender: b, ..r },
-        _ => Message { channel: b, ..r },
+fn damaged_semaphore(r: Semaphore, d: Damage) -> Semaphore {
+    Semaphore {
+        live: r.live != (d.field == 7),
+        count: half(d, 8, r.count),
+        maximum: half(d, 9, r.maximum),
+        ticks: word(d, 10, r.ticks),
+        period: word(d, 11, r.period),
     }
 }
 
-// Another length, or another member at a place.
-fn damaged_table(q: Queue, i: usize, field: u8, v: u32) -> Queue {
+fn damaged_event(r: Event, d: Damage) -> Event {
+    Event {
+        any: r.any != (d.field == 12),
+        mask: word(d, 13, r.mask),
+        values: word(d, 14, r.values),
+    }
+}
+
+fn damaged_message(r: Message, d: Damage) -> Message {
+    Message {
+        live: r.live != (d.field == 15),
+        owner: byte(d, 16, r.owner),
+        sender: byte(d, 17, r.sender),
+        kind: half(d, 18, r.kind),
+        size: word(d, 19, r.size),
+        address: word(d, 20, r.address),
+        channel: byte(d, 21, r.channel),
+    }
+}
+
+// A table: the field numbers of its length and of its places.
+fn damaged_table(q: Queue, d: Damage, length: u8, places: u8) -> Queue {
     let mut next = q;
-    let b = (v % 256) as u8;
-    if field < 6 {
-        next.n = b;
-        return next;
-    }
-    if i < 64 {
-        next.at[i] = b;
-    }
+    let i = d.id % 64;
+    next.n = byte(d, length, q.n);
+    next.at[i] = byte(d, places, q.at[i]);
     next
 }
 
-fn with_thread(k: Kernel, i: usize, field: u8, v: u32) -> Kernel {
-    let mut next = k;
-    if i < 32 {
-        next.threads[i] = damaged_thread(k.threads[i], field, v);
-    }
-    next
-}
-
-fn with_semaphore(k: Kernel, i: usize, field: u8, v: u32) -> Kernel {
-    let mut next = k;
-    if i < 16 {
-        next.semaphores[i] = damaged_semaphore(k.semaphores[i], field, v);
-    }
-    next
-}
-
-fn with_event(k: Kernel, i: usize, field: u8, v: u32) -> Kernel {
-    let mut next = k;
-    if i < 8 {
-        next.events[i] = damaged_event(k.events[i], field, v);
-    }
-    next
-}
-
-fn with_message(k: Kernel, i: usize, field: u8, v: u32) -> Kernel {
-    let mut next = k;
-    if i < 64 {
-        next.messages[i] = damaged_message(k.messages[i], field, v);
-    }
-    next
-}
-
-fn with_number(k: Kernel, field: u8, v: u32) -> Kernel {
-    let mut next = k;
-    let b = (v % 256) as u8;
-    match field {
-        0 | 1 | 2 | 3 => {
-            next.bits = v;
-            next
-        }
-        4 | 5 => {
-            next.uptime = v;
-            next
-        }
-        6 | 7 | 8 => {
-            next.unscheduled = b;
-            next
-        }
-        9 | 10 | 11 => {
-            next.critical = b;
-            next
-        }
-        _ => {
-            next.runner = b;
-            next
-        }
-    }
-}
-
-// The state with one field changed, by the generator's number.
-fn damaged(k: Kernel, r: u64) -> Kernel {
-    let part = (r >> 6) % 16;
-    let field = ((r >> 12) % 16) as u8;
-    let i = id_of(r >> 20);
-    let v = value_of(r >> 32);
-    let mut next = k;
-    match part {
-        0 | 1 | 2 | 3 => with_thread(k, i, field, v),
-        4 | 5 => with_semaphore(k, i, field, v),
-        6 | 7 => with_event(k, i, field, v),
-        8 | 9 | 10 => with_message(k, i, field, v),
-        11 => {
-            next.places = damaged_table(k.places, i, field, v);
-            next
-        }
-        12 => {
-            next.time = damaged_table(k.time, i, field, v);
-            next
-        }
-        13 => {
-            next.posted = damaged_table(k.posted, i, field, v);
-            next
-        }
-        _ => with_number(k, field, v),
-    }
+// The state with one field struck.
+fn damaged(mut k: Kernel, d: Damage) -> Kernel {
+    let t = d.id % 32;
+    let s = d.id % 16;
+    let e = d.id % 8;
+    let m = d.id % 64;
+    k.threads[t] = damaged_thread(k.threads[t], d);
+    k.semaphores[s] = damaged_semaphore(k.semaphores[s], d);
+    k.events[e] = damaged_event(k.events[e], d);
+    k.messages[m] = damaged_message(k.messages[m], d);
+    k.places = damaged_table(k.places, d, 22, 23);
+    k.time = damaged_table(k.time, d, 24, 25);
+    k.posted = damaged_table(k.posted, d, 26, 27);
+    k.bits = word(d, 28, k.bits);
+    k.uptime = word(d, 29, k.uptime);
+    k.unscheduled = byte(d, 30, k.unscheduled);
+    k.critical = byte(d, 31, k.critical);
+    k.runner = byte(d, 32, k.runner);
+    k
 }
 
 // ---- one trial
 
-// Whether this is a refusal: the number, no value, the runner, and the state and the used length as they were.
-fn is_refusal(l: Logged, number: u8, runner: u8, k: Kernel, used: usize) -> bool {
-    if l.answer.number != number {
-        return false;
+// An answer without a value.
+fn answer(number: u8, runner: u8) -> Answer {
+    Answer {
+        number: number,
+        value: 255,
+        runner: runner,
     }
-    if l.answer.value != 255 {
-        return false;
-    }
-    if l.answer.runner != runner {
+}
+
+fn same_answer(a: Answer, b: Answer) -> bool {
+    a.number == b.number && a.value == b.value && a.runner == b.runner
+}
+
+// Whether this came back.
+fn is_this(l: Logged, a: Answer, k: Kernel, used: usize) -> bool {
+    if !same_answer(l.answer, a) {
         return false;
     }
     if l.used != used {
@@ -308,366 +260,176 @@ fn is_refusal(l: Logged, number: u8, runner: u8, k: Kernel, used: usize) -> bool
     same::same_kernel(l.kernel, k)
 }
 
-// The bytes between two places as in the copy again; whether the log then is the copy.
-fn restored(log: &mut [u8], copy: &[u8], from: usize, to: usize) -> bool {
-    if to < from {
+// Whether the call without a log gives this answer and this state.
+fn steps_to(d: Kernel, bytes: [u8; 16], a: Answer, k: Kernel) -> bool {
+    let s = step::called(d, bytes);
+    if !same_answer(s.answer, a) {
         return false;
     }
-    if copy.len() < to {
+    same::same_kernel(s.kernel, k)
+}
+
+// A broken state: every entry that answers says 14 and hands back what it was given, and nothing is appended.
+fn on_broken(d: Kernel, bytes: [u8; 16], log: &mut [u8], used: usize) -> bool {
+    let a = answer(14, 255);
+    if !steps_to(d, bytes, a, d) {
         return false;
     }
-    pens::put_all(log, from, &copy[from..to]);
-    same_bytes(log, 0, copy)
-}
-
-// Every entry on a broken state: 14, and nothing is touched.
-fn on_broken(d: Kernel, bytes: [u8; 16], log: &mut [u8], copy: &[u8], used: usize) -> Outcome {
-    let s = step::called(d, bytes);
-    let answer = s.answer;
-    let kernel = s.kernel;
-    let without = Logged {
-        answer: answer,
-        kernel: kernel,
-        used: used,
-    };
-    let a = checked(0, is_refusal(without, 14, 255, d, used));
-    let l = logs::called(d, bytes, log, used);
-    let b = checked(a, is_refusal(l, 14, 255, d, used));
-    let u = undos::undo(d, log, used);
-    let c = checked(b, is_refusal(u, 14, 255, d, used));
-    let part = logs::append(d, bytes, log, used).len();
-    let e = checked(c, part == 0);
-    Outcome {
-        number: 14,
-        wrong: checked(e, same_bytes(log, 0, copy)),
+    if !is_this(logs::called(d, bytes, log, used), a, d, used) {
+        return false;
     }
-}
-
-// An accepted call undone at once, and appended again; then its note is taken off the log.
-fn taken_back(
-    d: Kernel,
-    bytes: [u8; 16],
-    l: Logged,
-    log: &mut [u8],
-    copy: &[u8],
-    used: usize,
-) -> u64 {
-    let end = l.used;
-    let u = undos::undo(l.kernel, log, end);
-    let a = checked(0, u.answer.number == 0);
-    let b = checked(a, u.answer.value == 255);
-    let c = checked(b, u.answer.runner == d.runner);
-    let e = checked(c, u.used == used);
-    let f = checked(e, same::same_kernel(u.kernel, d));
-    let part = logs::append(d, bytes, log, used).len();
-    let g = checked(f, part == std::num::wrapping_sub_usize(end, used));
-    checked(g, restored(log, copy, used, end))
-}
-
-// A call on a state that keeps its rules, with any used length: a refusal by step's number, or 13, touches nothing.
-fn on_kept(d: Kernel, bytes: [u8; 16], log: &mut [u8], copy: &[u8], used: usize) -> Outcome {
-    let s = step::called(d, bytes);
-    let l = logs::called(d, bytes, log, used);
-    let number = l.answer.number;
-    if number == 0 {
-        let a = checked(0, s.answer.number == 0);
-        return Outcome {
-            number: 0,
-            wrong: checked(a, taken_back(d, bytes, l, log, copy, used) == 0),
-        };
+    if !is_this(undos::undo(d, log, used), a, d, used) {
+        return false;
     }
-    let b = checked(0, number == refusal_of(s.answer.number));
-    let c = checked(b, is_refusal(l, number, d.runner, d, used));
+    logs::append(d, bytes, log, used).len() == 0
+}
+
+// A refusal without a log: the same as with one, but for 13, which a used length beyond the log gives.
+fn refused_alike(d: Kernel, bytes: [u8; 16], a: Answer, used: usize) -> bool {
+    if a.number != 13 {
+        return steps_to(d, bytes, a, d);
+    }
+    if used <= 16384 {
+        return false;
+    }
+    step::called(d, bytes).answer.number == 0
+}
+
+// A refusal with the log: everything as it was, and nothing is appended.
+fn on_refused(l: Logged, d: Kernel, bytes: [u8; 16], log: &mut [u8], used: usize) -> bool {
+    if !is_this(l, answer(l.answer.number, d.runner), d, used) {
+        return false;
+    }
+    if !refused_alike(d, bytes, l.answer, used) {
+        return false;
+    }
+    logs::append(d, bytes, log, used).len() == 0
+}
+
+// An accepted call: without a log it gives the same answer and the same state; its undo gives the damaged state back; appended, it
+// hands back the note.
+fn on_accepted(l: Logged, d: Kernel, bytes: [u8; 16], log: &mut [u8], used: usize) -> bool {
+    if !steps_to(d, bytes, l.answer, l.kernel) {
+        return false;
+    }
+    if !is_this(
+        undos::undo(l.kernel, log, l.used),
+        answer(0, d.runner),
+        d,
+        used,
+    ) {
+        return false;
+    }
+    logs::append(d, bytes, log, used).len() == std::num::wrapping_sub_usize(l.used, used)
+}
+
+fn ended(number: u8, end: usize, right: bool) -> Outcome {
     Outcome {
         number: number,
-        wrong: checked(c, same_bytes(log, 0, copy)),
+        end: end,
+        right: right,
     }
 }
 
-// With a log a call may be refused that is accepted without one.
-fn refusal_of(number: u8) -> u8 {
-    if number == 0 { 13 } else { number }
-}
-
-// The state that an undo gave back: its note's call on it, with an empty log, yields this end state and this very note.
-fn yields(u: Logged, k: Kernel, log: &[u8], used: usize, scratch: &mut [u8]) -> u64 {
-    let before = u.used;
-    if used < before {
-        return 1;
+// The record on a damaged state, through every entry.
+fn entered(d: Kernel, bytes: [u8; 16], log: &mut [u8], used: usize) -> Outcome {
+    if !tested::keeps_rules(d) {
+        return ended(14, used, on_broken(d, bytes, log, used));
     }
-    if log.len() < used {
-        return 1;
+    let l = logs::called(d, bytes, log, used);
+    if l.answer.number == 0 {
+        return ended(0, l.used, on_accepted(l, d, bytes, log, used));
     }
-    let note = &log[before..used];
-    let old = u.kernel;
-    let l = logs::called(old, last::record_in(note), scratch, 0);
-    let a = checked(0, u.answer.value == 255);
-    let b = checked(a, u.answer.runner == old.runner);
-    let c = checked(b, l.answer.number == 0);
-    let d = checked(c, l.used == note.len());
-    let e = checked(d, same_bytes(scratch, 0, note));
-    checked(e, same::same_kernel(l.kernel, k))
-}
-
-// An undo on a state that keeps its rules, with any log: 15, or what yields the note.
-fn on_log(k: Kernel, log: &[u8], used: usize, scratch: &mut [u8]) -> Outcome {
-    let u = undos::undo(k, log, used);
-    let number = u.answer.number;
-    if number == 0 {
-        return Outcome {
-            number: 0,
-            wrong: yields(u, k, log, used, scratch),
-        };
-    }
-    Outcome {
-        number: number,
-        wrong: checked(0, is_refusal(u, 15, k.runner, k, used)),
-    }
-}
-
-// ---- all trials of a state
-
-fn state_trial(
-    t: Tally,
-    d: Kernel,
-    bytes: [u8; 16],
-    log: &mut [u8],
-    copy: &[u8],
-    used: usize,
-) -> Tally {
-    if tested::keeps_rules(d) {
-        return counted(t, on_kept(d, bytes, log, copy, used));
-    }
-    counted(t, on_broken(d, bytes, log, copy, used))
-}
-
-// Damaged states.
-fn states(h: Harm, k: Kernel, bytes: [u8; 16], log: &mut [u8], copy: &[u8], used: usize) -> Harm {
-    let mut next = h;
-    let mut turn: u64 = 0;
-    while turn < 32 {
-        next.dice = thrown(next.dice);
-        next.states = state_trial(next.states, damaged(k, next.dice), bytes, log, copy, used);
-        turn += 1;
-    }
-    next
-}
-
-// The byte at a place with one bit flipped in turn.
-fn byte_flips(
-    t: Tally,
-    k: Kernel,
-    log: &mut [u8],
-    at: usize,
-    used: usize,
-    scratch: &mut [u8],
-) -> Tally {
-    let old = byte_at(log, at);
-    let mut next = t;
-    let mut bit: u8 = 0;
-    while bit < 8 {
-        pens::put_byte(log, at, old ^ (1 << bit));
-        next = counted(next, on_log(k, log, used, scratch));
-        bit += 1;
-    }
-    pens::put_byte(log, at, old);
-    next
-}
-
-// Each byte of the last note, which begins at `from`.
-fn flips(
-    t: Tally,
-    k: Kernel,
-    log: &mut [u8],
-    from: usize,
-    used: usize,
-    scratch: &mut [u8],
-) -> Tally {
-    let mut next = t;
-    let mut at = from;
-    while at < used {
-        next = byte_flips(next, k, log, at, used, scratch);
-        at += 1;
-    }
-    next
-}
-
-// A used length that is not the log's own.
-fn length_of(i: u8, used: usize, room: usize) -> usize {
-    match i {
-        0 => 0,
-        1 => 1,
-        2 => std::num::wrapping_sub_usize(used, 1),
-        3 => std::num::wrapping_add_usize(used, 1),
-        4 => std::num::wrapping_sub_usize(room, 27),
-        5 => room,
-        6 => std::num::wrapping_add_usize(room, 1),
-        _ => 18446744073709551615,
-    }
-}
-
-// An undo and a call with this used length. No undo passes where no note fits in front, and no call where none fits behind.
-fn length_trial(
-    h: Harm,
-    k: Kernel,
-    bytes: [u8; 16],
-    log: &mut [u8],
-    copy: &[u8],
-    n: usize,
-    scratch: &mut [u8],
-) -> Harm {
-    let mut next = h;
-    let u = on_log(k, log, n, scratch);
-    let c = on_kept(k, bytes, log, copy, n);
-    let front = u.number == 15 || (28 <= n && n <= log.len());
-    let behind = c.number != 0 || n < std::num::wrapping_sub_usize(log.len(), 27);
-    next.lengths = counted(next.lengths, held(u, front));
-    next.calls = counted(next.calls, held(c, behind));
-    next
-}
-
-// Damaged lengths.
-fn lengths(
-    h: Harm,
-    k: Kernel,
-    bytes: [u8; 16],
-    log: &mut [u8],
-    copy: &[u8],
-    used: usize,
-    scratch: &mut [u8],
-) -> Harm {
-    let mut next = h;
-    let mut i: u8 = 0;
-    while i < 8 {
-        let n = length_of(i, used, log.len());
-        next = length_trial(next, k, bytes, log, copy, n, scratch);
-        i += 1;
-    }
-    next
-}
-
-// The empty log, with any used length.
-fn empty_log(t: Tally, k: Kernel, used: usize, scratch: &mut [u8]) -> Tally {
-    let o = on_log(k, b"", used, scratch);
-    counted(t, held(o, o.number == 15))
-}
-
-// The damage to the last note, which stands between two places of the log, and to the log as a whole.
-fn on_note(h: Harm, k: Kernel, log: &mut [u8], from: usize, to: usize, scratch: &mut [u8]) -> Harm {
-    let mut next = h;
-    next.lengths = empty_log(next.lengths, k, 0, scratch);
-    next.lengths = empty_log(next.lengths, k, to, scratch);
-    next.flips = flips(next.flips, k, log, from, to, scratch);
-    next
+    ended(l.answer.number, l.used, on_refused(l, d, bytes, log, used))
 }
 
 // ---- the run
 
-// The copy takes over the note; whether the log then is the copy, so that nothing else was written.
-fn followed(log: &[u8], copy: &mut [u8], from: usize, to: usize) -> bool {
-    if to < from {
+// What stands between two places of one is copied to the other; whether both are the same then.
+fn copied(target: &mut [u8], source: &[u8], from: usize, to: usize) -> bool {
+    if to <= from {
+        return same_bytes(target, 0, source);
+    }
+    if source.len() < to {
         return false;
     }
-    if log.len() < to {
-        return false;
-    }
-    pens::put_all(copy, from, &log[from..to]);
-    same_bytes(log, 0, copy)
+    pens::put_all(target, from, &source[from..to]);
+    same_bytes(target, 0, source)
 }
 
-// The damage to a state and to its used length.
-fn on_state(
+// The end of a trial: a note that it wrote is taken off the log, which then must be what it was.
+fn settled(h: Harm, o: Outcome, log: &mut [u8], copy: &[u8], used: usize) -> Harm {
+    let kept = copied(log, copy, used, o.end);
+    let mut next = h;
+    next.states = tallied(h.states, o.number);
+    next.wrong = judged(h.wrong, o.right && kept);
+    next.dice = thrown(h.dice);
+    next
+}
+
+// A trial with one field damaged.
+fn trial(
     h: Harm,
     k: Kernel,
+    field: u8,
     bytes: [u8; 16],
     log: &mut [u8],
     copy: &[u8],
     used: usize,
-    scratch: &mut [u8],
 ) -> Harm {
-    let next = states(h, k, bytes, log, copy, used);
-    lengths(next, k, bytes, log, copy, used, scratch)
+    let n = length_of(h.dice, used);
+    let o = entered(damaged(k, damage_of(field, h.dice)), bytes, log, n);
+    settled(h, o, log, copy, n)
 }
 
-// The harm after a record that came back with l and wrote only its note, with the record that follows.
-fn after(
-    h: Harm,
-    l: Logged,
-    only: bool,
-    from: usize,
-    bytes: [u8; 16],
-    log: &mut [u8],
-    copy: &[u8],
-    scratch: &mut [u8],
-) -> Run {
-    let k = l.kernel;
-    let to = l.used;
-    let first = on_state(h, k, bytes, log, copy, to, scratch);
-    let mut next = on_note(first, k, log, from, to, scratch);
-    let o = Outcome {
-        number: l.answer.number,
-        wrong: checked(0, same_bytes(log, 0, copy)),
-    };
-    next.records = counted(next.records, held(o, only));
-    Run {
-        kernel: k,
-        used: to,
-        harm: next,
+// A trial with each field.
+fn trials(h: Harm, k: Kernel, bytes: [u8; 16], log: &mut [u8], copy: &[u8], used: usize) -> Harm {
+    let mut next = h;
+    let mut field: u8 = 0;
+    while field < 33 {
+        next = trial(next, k, field, bytes, log, copy, used);
+        field += 1;
     }
+    next
 }
 
-// One record more, and then the harm.
-fn next(
-    run: Run,
-    bytes: [u8; 16],
-    following: [u8; 16],
-    log: &mut [u8],
-    copy: &mut [u8],
-    scratch: &mut [u8],
-) -> Run {
-    let k = run.kernel;
-    let from = run.used;
-    let l = logs::recorded(k, bytes, log, from);
-    let only = followed(log, copy, from, l.used);
-    after(run.harm, l, only, from, following, log, copy, scratch)
-}
-
-// Fresh, and no trial yet.
-fn started() -> Run {
-    Run {
+// The whole records of s, with one log, whose copy takes over each note; a shorter tail is dropped.
+fn all(s: &[u8]) -> Harm {
+    let mut log = [165u8; 16384];
+    let mut copy = [165u8; 16384];
+    let mut h = unharmed();
+    let mut l = Logged {
         kernel: kernel::records::fresh(),
+        answer: answer(0, 255),
         used: 0,
-        harm: Harm {
-            records: nothing(),
-            states: nothing(),
-            flips: nothing(),
-            lengths: nothing(),
-            calls: nothing(),
-            dice: 88172645463325252,
-        },
-    }
-}
-
-// The whole records of s; a shorter tail is dropped.
-fn all(s: &[u8], log: &mut [u8], copy: &mut [u8], scratch: &mut [u8]) -> Run {
-    let mut run = started();
+    };
     let mut at: usize = 0;
     while 16 <= s.len() - at {
         let bytes = last::record_in(&s[at..]);
+        let used = l.used;
         at += 16;
-        run = next(run, bytes, last::record_in(&s[at..]), log, copy, scratch);
+        h = trials(h, l.kernel, bytes, &mut log, &copy, used);
+        l = logs::called(l.kernel, bytes, &mut log, used);
+        let only = copied(&mut copy, &log, used, l.used);
+        h.records = tallied(h.records, l.answer.number);
+        h.wrong = judged(h.wrong, only);
     }
-    run
+    h
 }
 
-// The same on arrays, which are lent whole.
-fn run_on(
-    s: &[u8],
-    log: &mut [u8; 16384],
-    copy: &mut [u8; 16384],
-    scratch: &mut [u8; 4096],
-) -> Run {
-    all(s, log, copy, scratch)
+// No trial yet.
+fn unharmed() -> Harm {
+    let none = Tally {
+        broken: 0,
+        refused: 0,
+        accepted: 0,
+    };
+    Harm {
+        records: none,
+        states: none,
+        wrong: 0,
+        dice: 88172645463325252,
+    }
 }
 
 // ---- the lines
@@ -684,23 +446,15 @@ fn line(name: &[u8], t: Tally) {
     show(b" broken ", t.broken);
     show(b" refused ", t.refused);
     show(b" accepted ", t.accepted);
-    show(b" wrong ", t.wrong);
     io::write_all(1, b"\n");
 }
 
 fn main() {
-    let mut log = [165u8; 16384];
-    let mut copy = [165u8; 16384];
-    let mut scratch = [0u8; 4096];
     let mut input = io::large_buffer();
     let n = io::read_full(0, &mut input);
-    let run = run_on(&input[..n], &mut log, &mut copy, &mut scratch);
-    let h = run.harm;
+    let h = all(&input[..n]);
     line(b"records ", h.records);
     line(b"states ", h.states);
-    line(b"flips ", h.flips);
-    line(b"lengths ", h.lengths);
-    line(b"calls ", h.calls);
-    show(b"used ", run.used as u64);
+    show(b"wrong ", h.wrong);
     io::write_all(1, b"\n");
 }
