@@ -1,0 +1,83 @@
+use Prim.Native.Nat.{_-_}
+use mathlib.Core.Path.{_≡_}
+use lib.ListN.{length}
+use borrow.Author.Needs.{needs}
+use Rattle.garbled.proofs.fulls.Statement.{statement}
+use Rattle.garbled.proofs.fulls.Tie as tie
+
+abbrev Inv-loop : tie.InvT-loop
+Inv-loop k bytes log₀ copy at next₀ m₀ log next m = length log ≡ length log₀
+
+abbrev μ-loop : tie.MeasureT-loop
+μ-loop k bytes log₀ copy at next₀ m₀ log next m = at .to - m
+
+loop-holds : tie.Need-loop-holds Inv-loop μ-loop
+loop-holds c = search needs
+
+checked-requires : tie.Need-checked-requires Inv-loop μ-loop
+checked-requires c κs = search needs
+
+same-length : tie.Need-same-length Inv-loop μ-loop
+same-length c = search needs
+
+returns : tie.Need-returns Inv-loop μ-loop
+returns c = search needs
+
+sub-on-full : tie.Need-sub-on-full Inv-loop μ-loop
+sub-on-full c = search needs
+
+part-on-full-start : tie.Need-part-on-full-start Inv-loop μ-loop
+part-on-full-start c = search needs
+
+part-on-full-end : tie.Need-part-on-full-end Inv-loop μ-loop
+part-on-full-end c = search needs
+
+on-full-requires : tie.Need-on-full-requires Inv-loop μ-loop
+on-full-requires c κs = search needs
+
+counted-requires : tie.Need-counted-requires Inv-loop μ-loop
+counted-requires c κs = search needs
+
+add-m : tie.Need-add-m Inv-loop μ-loop
+add-m c = search needs
+
+loop-less : tie.Need-loop-less Inv-loop μ-loop
+loop-less c = search needs
+
+loop-again : tie.Need-loop-again Inv-loop μ-loop
+loop-again c = search needs
+
+same-bytes-requires : tie.Need-same-bytes-requires Inv-loop μ-loop
+same-bytes-requires c κs = search needs
+
+checked-requires-2 : tie.Need-checked-requires-2 Inv-loop μ-loop
+checked-requires-2 c κs = search needs
+
+same-length-2 : tie.Need-same-length-2 Inv-loop μ-loop
+same-length-2 c = search needs
+
+returns-2 : tie.Need-returns-2 Inv-loop μ-loop
+returns-2 c = search needs
+
+pub fulls-spec : {M : Type 1} → statement M
+fulls-spec =
+    tie.close
+    (tie.spec
+    Inv-loop
+    μ-loop
+    loop-holds
+    checked-requires
+    same-length
+    returns
+    sub-on-full
+    part-on-full-start
+    part-on-full-end
+    on-full-requires
+    counted-requires
+    add-m
+    loop-less
+    loop-again
+    same-bytes-requires
+    checked-requires-2
+    same-length-2
+    returns-2)
