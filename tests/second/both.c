@@ -5,11 +5,11 @@
 
 #include "modes.h"
 
-enum { LOG_LENGTH = 1048576, SHORTEST_NOTE = 28, LINE = 128 };
+enum { LINE = 128 };
 
-/* One note in the log: its length and the runner before its call. */
+/* One note in the log: where it begins, and the runner before its call. */
 struct note {
-    long length;
+    size_t start;
     uint8_t runner;
 };
 
@@ -17,8 +17,8 @@ static struct kernel now, before;
 static struct {
     struct note *notes;
     size_t count, room;
-    long used; /* of the log */
 } done;
+static struct log own;
 
 static struct {
     FILE *file;
@@ -50,20 +50,7 @@ static int line_is(const char *expected)
     return strcmp(line.text, expected) == 0 || differ(expected);
 }
 
-/* The length behind the expected start of the line, or -1; only plain decimal counts. */
-static long length_after(const char *start)
-{
-    size_t n = strlen(start);
-    if (strncmp(line.text, start, n) != 0)
-        return -1;
-    const char *digits = line.text + n;
-    size_t count = strspn(digits, "0123456789");
-    if (count == 0 || count > 7 || digits[count] != 0 || (digits[0] == '0' && count > 1))
-        return -1;
-    return strtol(digits, 0, 10);
-}
-
-static void add_note(long length, uint8_t runner)
+static void add_note(size_t start, uint8_t runner)
 {
     if (done.count == done.room) {
         done.room = done.room ? 2 * done.room : 1024;
@@ -73,32 +60,18 @@ static void add_note(long length, uint8_t runner)
             exit(2);
         }
     }
-    done.notes[done.count++] = (struct note){ length, runner };
-    done.used += length;
+    done.notes[done.count++] = (struct note){ start, runner };
 }
 
-/* `now` has taken an accepted call, `before` is the state before it. */
-static int check_accepted(unsigned long long serial, struct answer a)
+/* Document 01's limits, counted from the two states; `now` has taken the call, `before` is the state before it. */
+static int length_is_right(size_t length)
 {
     struct counts n = count_differences(&before, &now);
-    long longest = 96 + 24 * n.T + 16 * n.S + 16 * n.M, room = LOG_LENGTH - done.used;
-    char start[LINE], full[LINE], text[2 * LINE];
-    snprintf(start, LINE, "%llu 0 %d %d ", serial, a.value, a.runner);
-    snprintf(full, LINE, "%llu 13 255 %d 0", serial, before.running);
-    if (room < longest && strcmp(line.text, full) == 0) {
-        now = before;
+    size_t longest = 96 + 24 * (size_t)n.T + 16 * (size_t)n.S + 16 * (size_t)n.M;
+    if (length >= SHORTEST_NOTE && length <= longest)
         return 1;
-    }
-    long length = length_after(start);
-    if (length >= SHORTEST_NOTE && length <= longest && length <= room) {
-        add_note(length, before.running);
-        return 1;
-    }
-    if (room < SHORTEST_NOTE)
-        return differ(full);
-    snprintf(text, sizeof text, "%s%d..%ld%s", start, SHORTEST_NOTE, longest < room ? longest : room,
-             room < longest ? ", or number 13" : "");
-    return differ(text);
+    printf("differ at line %llu: a note of %d to %zu bytes, not of %zu\n", line.number, SHORTEST_NOTE, longest, length);
+    return 0;
 }
 
 static int check_forward(unsigned long long *serial)
@@ -107,13 +80,18 @@ static int check_forward(unsigned long long *serial)
     char text[LINE];
     make_fresh(&now);
     while (next_record(record)) {
+        size_t start = own.used;
         before = now;
-        struct answer a = step(&now, record);
-        ++*serial;
+        struct answer a = step_noted(&now, record, &own);
+        size_t length = own.used - start;
+        snprintf(text, LINE, "%llu %d %d %d %zu", ++*serial, a.number, a.value, a.runner, length);
         next_line();
-        snprintf(text, LINE, "%llu %d %d %d 0", *serial, a.number, a.value, a.runner);
-        if (a.number != 0 ? !line_is(text) : !check_accepted(*serial, a))
+        if (!line_is(text))
             return 0;
+        if (a.number == 0 && !length_is_right(length))
+            return 0;
+        if (a.number == 0)
+            add_note(start, before.running);
     }
     return 1;
 }
@@ -121,10 +99,8 @@ static int check_forward(unsigned long long *serial)
 static int check_back(void)
 {
     char text[LINE];
-    long used = done.used;
     for (size_t i = done.count; i-- > 0;) {
-        used -= done.notes[i].length;
-        snprintf(text, LINE, "back 0 %d %ld", done.notes[i].runner, used);
+        snprintf(text, LINE, "back 0 %d %zu", done.notes[i].runner, done.notes[i].start);
         next_line();
         if (!line_is(text))
             return 0;
@@ -150,7 +126,7 @@ int both(const char *lines_file)
     int agree = check_forward(&serial) && check_back();
     if (agree)
         printf("agree %llu accepted %zu mean %.1f\n", serial, done.count,
-               done.count ? (double)done.used / (double)done.count : 0.0);
+               done.count ? (double)own.used / (double)done.count : 0.0);
     free(done.notes);
     fclose(line.file);
     return agree ? 0 : 1;

@@ -13,11 +13,11 @@ fail() { echo "FAILED: $*"; exit 1; }
 cd "$here"
 flags="-std=c11 -Wall -Wextra -Wpedantic -Wconversion -Wshadow -Werror"
 sanitize="-g -O1 -fsanitize=address,undefined -fno-sanitize-recover=all"
-program="main.c both.c replay.c rules.c"
+program="main.c both.c replay.c rules.c notes.c undo.c"
 gcc $flags -O2 -o "$work/second" $program
 gcc $flags -O2 -DNDEBUG -o "$work/quick" $program
 gcc $flags $sanitize -o "$work/careful" $program
-gcc $flags $sanitize -o "$work/unit" unit.c replay.c rules.c
+gcc $flags $sanitize -o "$work/unit" unit.c replay.c rules.c notes.c undo.c
 echo "built plain, quick (no asserts) and careful (sanitizers)"
 
 "$work/unit" || fail unit
@@ -77,23 +77,48 @@ for family in mixed ticks semaphores messages events priorities regions senseles
     echo "$family, $seeds seeds of $count:$(numbers "$work/$family".*.lines)"
 done
 
+# Notes: two builds write the same, and in the build $2 each leads back; $1 names a log.
+notes() {
+    "$work/second" notes < "$work/$1" > "$work/$1.notes" || fail "notes $1"
+    "$work/quick" notes < "$work/$1" | cmp - "$work/$1.notes" || fail "notes $1 differ"
+    "$work/$2" back < "$work/$1" > "$work/said" || fail "back $1: $(cat "$work/said")"
+    grep -q " bytes $(wc -c < "$work/$1.notes") fresh\$" "$work/said" || fail "back $1: $(cat "$work/said")"
+}
+
 # The mode both: good lines agree, each kind of bad line is found.
-fake() { python3 "$here/fake_both.py" "$1" < "$work/$2" > "$work/fake"; }
+fake() { python3 "$here/fake_both.py" "$work/$1.notes" < "$work/$1" > "$work/fake" || fail "notes of $1"; }
 agrees() {
-    "$work/careful" both "$work/fake" < "$work/$1" > "$work/said" || fail "both $1: $(cat "$work/said")"
+    "$work/$2" both "$work/fake" < "$work/$1" > "$work/said" || fail "both $1: $(cat "$work/said")"
     cat "$work/said"
 }
 differs() {
     if "$work/careful" both "$work/bad" < "$work/mixed.1" > "$work/said"; then fail "both missed: $1"; fi
     grep -q "^differ at line $2:" "$work/said" || fail "both, $1: $(cat "$work/said")"
 }
-fake 96 mixed.1
-(export ASAN_OPTIONS=detect_leaks=1; agrees mixed.1)
+
+$logs ticks 7 33000 > "$work/long" # more than its notes' log can hold
+for log in mixed.1 ticks.1 semaphores.1 messages.1 events.1 priorities.1 regions.1 senseless.1 edges long; do
+    build=careful
+    case $log in edges | long) build=second ;; esac # long ones in the quicker build
+    notes $log $build
+    fake $log
+    printf 'notes of %s: ' $log
+    agrees $log $build
+done
+full=$(grep -c '^[0-9]* 13 ' "$work/fake") || fail "no number 13"
+echo "$full times number 13 in a full log"
+
+fake mixed.1
+(export ASAN_OPTIONS=detect_leaks=1; agrees mixed.1 careful)
 [ "$(wc -l < "$work/fake")" -gt "$count" ] || fail fake
 sed '7s/ [0-9]* \([0-9]*\)$/ 99 \1/' "$work/fake" > "$work/bad"; differs "a wrong runner" 7
 line=$(awk 'NR > 8 && $2 == 0 { print NR; exit }' "$work/fake")
 awk -v n="$line" 'NR == n { $0 = n " 13 255 " runner " 0" } { runner = $4; print }' "$work/fake" > "$work/bad"
 differs "a 13 with room" "$line"
+for by in -1 1; do
+    awk -v n="$line" -v by=$by 'NR == n { $5 += by } { print }' "$work/fake" > "$work/bad"
+    differs "a wrong length" "$line"
+done
 line=$(grep -n '^back' "$work/fake" | sed -n '5s/:.*//p')
 sed "${line}s/ 0 / 15 /" "$work/fake" > "$work/bad"; differs "a failed undo" "$line"
 sed "${line}s/\$/0/" "$work/fake" > "$work/bad"; differs "a wrong used" "$line"
@@ -102,15 +127,13 @@ last=$(wc -l < "$work/fake")
 sed 's/^fresh$/other/' "$work/fake" > "$work/bad"; differs "not fresh" "$last"
 sed '$d' "$work/fake" > "$work/bad"; differs "no last line" "$last"
 (cat "$work/fake"; echo more) > "$work/bad"; differs "a line too many" $((last + 1))
-fake 27 mixed.1; mv "$work/fake" "$work/bad"
-differs "notes too short" "$(awk '$5 == 27 { print NR; exit }' "$work/bad")"
-fake 97 mixed.1; mv "$work/fake" "$work/bad"
-differs "notes too long" "[0-9]*"
-cat "$work"/semaphores.? "$work"/events.? "$work"/regions.? > "$work/long"
-fake 96 long; agrees long
-grep -c '^[0-9]* 13 ' "$work/fake" | sed 's/$/ times number 13 in a full log/'
 
-"$work/quick" rounds < "$work/mixed.1"
+# Rounds write what `notes` writes, 256 times, and accept the same with and without notes.
+head -c 65536 "$work/mixed.1" > "$work/round"
+rounds=$("$work/quick" rounds < "$work/round")
+[ "${rounds##* }" = $((256 * $("$work/quick" notes < "$work/round" | wc -c))) ] || fail "rounds: $rounds"
+[ "${rounds% bytes *}" = "$("$work/quick" rounds plain < "$work/round")" ] || fail "rounds plain: $rounds"
+echo "$rounds"
 "$work/careful" rounds < "$work/samples/printed"
 "$work/quick" rounds back < "$work/mixed.1"
 echo "second: all checks passed"

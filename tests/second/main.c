@@ -1,4 +1,4 @@
-/* The program `second`: printed, both, rounds (see README.md). */
+/* The program `second` and its modes but `both` (see README.md). */
 #include <assert.h>
 #include <stdio.h>
 #include <stdlib.h>
@@ -9,6 +9,8 @@
 enum { ROUND_RECORDS = 4096, ROUNDS = 256, ROUNDS_BACK = 16, BUFFER = 1 << 16 };
 
 static struct kernel kernel; /* too large for some stacks */
+static struct log notes_log;
+static uint8_t records[ROUND_RECORDS][RECORD];
 
 int next_record(uint8_t record[RECORD])
 {
@@ -27,6 +29,13 @@ struct answer step(struct kernel *k, const uint8_t record[RECORD])
     return answer;
 }
 
+struct answer step_noted(struct kernel *k, const uint8_t record[RECORD], struct log *log)
+{
+    struct answer answer = call_noted(k, record, log);
+    assert(keeps_rules(k));
+    return answer;
+}
+
 int printed(void)
 {
     uint8_t record[RECORD];
@@ -40,53 +49,139 @@ int printed(void)
     return 0;
 }
 
-int rounds(int back)
+/* At most ROUND_RECORDS of standard input; returns how many. */
+static int read_round(void)
 {
-    static uint8_t records[ROUND_RECORDS][RECORD];
-    int turns = back ? ROUNDS_BACK : ROUNDS, count = 0;
+    int count = 0;
+    while (count < ROUND_RECORDS && next_record(records[count]))
+        count++;
+    return count;
+}
+
+int rounds(void)
+{
+    unsigned long accepted = 0, bytes = 0;
+    int count = read_round();
+    for (int round = 0; round < ROUNDS; round++) {
+        make_fresh(&kernel);
+        notes_log.used = 0;
+        for (int i = 0; i < count; i++)
+            accepted += call_noted(&kernel, records[i], &notes_log).number == 0;
+        bytes += notes_log.used;
+    }
+    printf("records %d rounds %d accepted %lu bytes %lu\n", count, ROUNDS, accepted, bytes);
+    return 0;
+}
+
+int rounds_plain(void)
+{
     unsigned long accepted = 0;
-    struct kernel *before = back ? malloc(ROUND_RECORDS * sizeof *before) : NULL;
-    if (back && before == NULL) {
+    int count = read_round();
+    for (int round = 0; round < ROUNDS; round++) {
+        make_fresh(&kernel);
+        for (int i = 0; i < count; i++)
+            accepted += call_kept(&kernel, records[i]).number == 0;
+    }
+    printf("records %d rounds %d accepted %lu\n", count, ROUNDS, accepted);
+    return 0;
+}
+
+int rounds_back(void)
+{
+    unsigned long accepted = 0;
+    int count = read_round();
+    struct kernel *before = malloc(ROUND_RECORDS * sizeof *before);
+    if (before == NULL) {
         perror("memory");
         return 2;
     }
-    while (count < ROUND_RECORDS && next_record(records[count]))
-        count++;
-    for (int round = 0; round < turns; round++) {
+    for (int round = 0; round < ROUNDS_BACK; round++) {
         int kept = 0;
         make_fresh(&kernel);
         for (int i = 0; i < count; i++) {
-            if (back)
-                before[kept] = kernel; /* this replay writes no notes: a way back is a copy */
+            before[kept] = kernel; /* here a way back is a copy */
             if (call_kept(&kernel, records[i]).number == 0) {
                 accepted++;
-                kept += back;
+                kept++;
             }
         }
         while (kept > 0)
             kernel = before[--kept];
     }
     free(before);
-    printf("records %d rounds %d accepted %lu\n", count, turns, accepted);
+    printf("records %d rounds %d accepted %lu\n", count, ROUNDS_BACK, accepted);
     return 0;
+}
+
+int notes(void)
+{
+    uint8_t record[RECORD];
+    make_fresh(&kernel);
+    while (next_record(record))
+        step_noted(&kernel, record, &notes_log);
+    fwrite(notes_log.bytes, 1, notes_log.used, stdout);
+    return 0;
+}
+
+/* Every note leads back to a copy of the state before its call; then all of them lead back to the fresh state. */
+int back(void)
+{
+    static struct kernel before, undone;
+    uint8_t record[RECORD];
+    unsigned long count = 0, accepted = 0;
+    make_fresh(&kernel);
+    while (next_record(record)) {
+        size_t used = notes_log.used;
+        before = kernel;
+        count++;
+        if (step_noted(&kernel, record, &notes_log).number == 0) {
+            size_t now = notes_log.used;
+            accepted++;
+            undone = kernel;
+            undo_last(&undone, &notes_log);
+            if (notes_log.used != used || !states_are_equal(&undone, &before)) {
+                printf("record %lu isn't undone\n", count);
+                return 1;
+            }
+            notes_log.used = now;
+        }
+    }
+    unsigned long bytes = notes_log.used;
+    while (notes_log.used > 0)
+        undo_last(&kernel, &notes_log);
+    make_fresh(&before);
+    int fresh = states_are_equal(&kernel, &before);
+    printf("records %lu accepted %lu bytes %lu %s\n", count, accepted, bytes, fresh ? "fresh" : "not fresh");
+    return fresh ? 0 : 1;
+}
+
+static const struct {
+    const char *name, *second;
+    int (*run)(void);
+} modes[] = {
+    { "printed", 0, printed }, { "notes", 0, notes }, { "back", 0, back }, { "rounds", 0, rounds },
+    { "rounds", "plain", rounds_plain }, { "rounds", "back", rounds_back },
+};
+
+/* 2 where there is no such mode. */
+static int run_mode(int argc, char **argv)
+{
+    if (argc == 3 && strcmp(argv[1], "both") == 0)
+        return both(argv[2]);
+    for (size_t i = 0; i < sizeof modes / sizeof *modes; i++)
+        if (argc == (modes[i].second ? 3 : 2) && strcmp(argv[1], modes[i].name) == 0
+            && (argc == 2 || strcmp(argv[2], modes[i].second) == 0))
+            return modes[i].run();
+    fprintf(stderr, "usage: second printed | both LINESFILE | notes | back | rounds [plain | back]  < records\n");
+    return 2;
 }
 
 int main(int argc, char **argv)
 {
     static char in[BUFFER], out[BUFFER];
-    int status = 2;
     setvbuf(stdin, in, _IOFBF, sizeof in);
     setvbuf(stdout, out, _IOFBF, sizeof out);
-    if (argc == 2 && strcmp(argv[1], "printed") == 0)
-        status = printed();
-    else if (argc == 2 && strcmp(argv[1], "rounds") == 0)
-        status = rounds(0);
-    else if (argc == 3 && strcmp(argv[1], "rounds") == 0 && strcmp(argv[2], "back") == 0)
-        status = rounds(1);
-    else if (argc == 3 && strcmp(argv[1], "both") == 0)
-        status = both(argv[2]);
-    else
-        fprintf(stderr, "usage: second printed | both LINESFILE | rounds [back]  < records\n");
+    int status = run_mode(argc, argv);
     if (fflush(stdout) != 0 || ferror(stdout)) {
         perror("standard output");
         status = 2;

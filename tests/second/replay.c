@@ -2,6 +2,7 @@
 #include <assert.h>
 #include <string.h>
 
+#include "notes.h"
 #include "replay.h"
 
 struct record {
@@ -114,6 +115,8 @@ static void leave_every_queue(struct kernel *k, uint8_t t)
 static void wake(struct kernel *k, uint8_t t, enum wake_reason reason)
 {
     struct thread *th = &k->threads[t];
+    if (touched)
+        touch_thread(touched, k, t);
     leave_every_queue(k, t);
     th->wake_reason = (uint8_t)reason;
     th->timed_out_kind = reason == TIMED_OUT ? th->condition : 0;
@@ -128,6 +131,8 @@ static void block(struct kernel *k, enum condition condition, uint16_t object, u
 {
     uint8_t t = k->running;
     struct thread *th = &k->threads[t];
+    if (touched)
+        touch_thread(touched, k, t);
     leave_list(k, t);
     th->condition = (uint8_t)condition;
     th->object = object;
@@ -140,7 +145,7 @@ static void block(struct kernel *k, enum condition condition, uint16_t object, u
         join_time_queue(k, t);
 }
 
-static uint8_t first_ready(const struct kernel *k)
+uint8_t first_ready(const struct kernel *k)
 {
     for (int p = 1; p <= PRIORITIES; p++)
         if (k->ready[p].length > 0)
@@ -161,6 +166,8 @@ static uint8_t create_thread(struct kernel *k, uint8_t priority)
     uint8_t t = 0;
     while (k->threads[t].live)
         t++;
+    if (touched)
+        touch_thread(touched, k, t);
     k->threads[t] = (struct thread){ .live = 1, .priority = priority,
                                      .first_priority = priority, .reply = NONE };
     join_ready(k, t);
@@ -169,6 +176,10 @@ static uint8_t create_thread(struct kernel *k, uint8_t priority)
 
 static void destroy_thread(struct kernel *k, uint8_t t)
 {
+    if (touched) {
+        touch_thread(touched, k, t);
+        touch_messages_of(touched, k, t);
+    }
     leave_every_queue(k, t);
     memset(k->channels[t], 0, sizeof k->channels[t]);
     for (int m = 0; m < MESSAGES; m++) /* held and queued ones alike */
@@ -180,12 +191,22 @@ static void destroy_thread(struct kernel *k, uint8_t t)
 /* A ready thread goes last, a waiter behind equals; its place in the time queue stays. */
 static void change_priority(struct kernel *k, uint8_t t, uint8_t priority)
 {
+    if (touched) /* even where the record stays: it moves */
+        touch_thread(touched, k, t);
     leave_list(k, t);
     k->threads[t].priority = priority;
     if (k->threads[t].condition == READY)
         join_ready(k, t);
     else
         join_waiting(k, t);
+}
+
+static void yield(struct kernel *k)
+{
+    if (touched)
+        touch_thread(touched, k, k->running);
+    leave_list(k, k->running);
+    join_ready(k, k->running);
 }
 
 /* ---- semaphores and ticks ---- */
@@ -195,31 +216,49 @@ static uint8_t create_semaphore(struct kernel *k, uint16_t count, uint16_t maxim
     uint8_t s = 0;
     while (k->semaphores[s].live)
         s++;
+    if (touched)
+        touch_semaphore(touched, k, s);
     k->semaphores[s] = (struct semaphore){ .live = 1, .count = count, .maximum = maximum };
     return s;
 }
 
+static void destroy_semaphore(struct kernel *k, uint8_t s)
+{
+    if (touched)
+        touch_semaphore(touched, k, s);
+    k->semaphores[s] = (struct semaphore){ 0 };
+}
+
 static void make_periodic(struct kernel *k, uint8_t s, uint32_t delay, uint32_t period)
 {
-    k->semaphores[s].ticks_left = delay;
-    k->semaphores[s].period = period;
+    struct semaphore *sem = &k->semaphores[s];
+    if (touched && (sem->ticks_left != delay || sem->period != period))
+        touch_semaphore(touched, k, s);
+    sem->ticks_left = delay;
+    sem->period = period;
 }
 
 static void pend_semaphore(struct kernel *k, uint8_t s, uint32_t timeout)
 {
-    if (k->semaphores[s].count > 0)
-        k->semaphores[s].count--;
-    else
+    if (k->semaphores[s].count == 0) {
         block(k, WAITS_SEMAPHORE, s, timeout);
+        return;
+    }
+    if (touched)
+        touch_semaphore(touched, k, s);
+    k->semaphores[s].count--;
 }
 
 static void post_semaphore(struct kernel *k, uint8_t s)
 {
     struct semaphore *sem = &k->semaphores[s];
-    if (k->semaphore_waiters[s].length > 0)
+    if (k->semaphore_waiters[s].length > 0) {
         wake(k, k->semaphore_waiters[s].place[0], MET);
-    else if (sem->count < sem->maximum)
+    } else if (sem->count < sem->maximum) {
+        if (touched)
+            touch_semaphore(touched, k, s);
         sem->count++;
+    }
 }
 
 static void tick(struct kernel *k)
@@ -233,6 +272,8 @@ static void tick(struct kernel *k)
     for (uint8_t s = 0; s < SEMAPHORES; s++) {
         struct semaphore *sem = &k->semaphores[s];
         if (sem->period > 0 && --sem->ticks_left == 0) {
+            if (touched)
+                touch_semaphore(touched, k, s);
             post_semaphore(k, s);
             sem->ticks_left = sem->period;
         }
@@ -257,7 +298,10 @@ static void work_out_events(struct kernel *k)
 
 static void load_event(struct kernel *k, const struct record *r)
 {
-    k->events[r->a] = (struct event){ (uint8_t)r->b, r->c, r->d };
+    struct event *e = &k->events[r->a];
+    if (touched && (e->mode != r->b || e->mask != r->c || e->values != r->d))
+        touch_event(touched, k, r->a);
+    *e = (struct event){ (uint8_t)r->b, r->c, r->d };
     work_out_events(k);
 }
 
@@ -281,14 +325,25 @@ static uint8_t create_message(struct kernel *k, const struct record *r)
     uint8_t m = 0;
     while (k->messages[m].live)
         m++;
+    if (touched)
+        touch_message(touched, k, m);
     k->messages[m] = (struct message){ 1, k->running, k->running, r->b, r->c, r->d };
     return m;
+}
+
+static void destroy_message(struct kernel *k, uint8_t m)
+{
+    if (touched)
+        touch_message(touched, k, m);
+    k->messages[m] = (struct message){ 0 };
 }
 
 static void post_message(struct kernel *k, uint8_t m, uint8_t to, uint32_t channel)
 {
     struct thread *th = &k->threads[to];
     struct channel *ch = &k->channels[to][channel - 1];
+    if (touched)
+        touch_message(touched, k, m);
     k->messages[m].owner = to;
     k->messages[m].sender = k->running;
     if (th->condition == WAITS_MESSAGE && th->object >> (channel - 1) & 1) {
@@ -316,6 +371,8 @@ static uint8_t pend_message(struct kernel *k, uint16_t mask, uint32_t timeout)
         return NONE;
     }
     uint8_t m = ch->place[0];
+    if (touched)
+        touch_queued(touched, k, m, (int)(ch - k->channels[k->running]) + 1);
     take_out(ch->place, &ch->length, m);
     return m;
 }
@@ -469,7 +526,7 @@ static uint8_t carry_out(struct kernel *k, const struct record *r)
     case 3: destroy_thread(k, r->a); break;
     case 4: change_priority(k, r->a, (uint8_t)r->b); break;
     case 5: change_priority(k, r->a, k->threads[r->a].first_priority); break;
-    case 6: leave_list(k, k->running); join_ready(k, k->running); break;
+    case 6: yield(k); break;
     case 7: block(k, ASLEEP, 0, r->c); break;
     case 8: k->unscheduled++; break;
     case 9: k->unscheduled--; break;
@@ -478,7 +535,7 @@ static uint8_t carry_out(struct kernel *k, const struct record *r)
     case 12: k->critical--; break;
     case 13: k->critical = 0; break;
     case 14: return create_semaphore(k, r->b, (uint16_t)r->c);
-    case 15: k->semaphores[r->a] = (struct semaphore){ 0 }; break;
+    case 15: destroy_semaphore(k, r->a); break;
     case 16: make_periodic(k, r->a, r->c, r->d); break;
     case 17: make_periodic(k, r->a, 0, 0); break;
     case 18: pend_semaphore(k, r->a, r->c); break;
@@ -488,7 +545,7 @@ static uint8_t carry_out(struct kernel *k, const struct record *r)
     case 22: case 29: change_bit(k, r->a, 1); break;
     case 23: case 30: change_bit(k, r->a, 0); break;
     case 24: return create_message(k, r);
-    case 25: k->messages[r->a] = (struct message){ 0 }; break;
+    case 25: destroy_message(k, r->a); break;
     case 26: post_message(k, r->a, (uint8_t)r->b, r->c); break;
     case 27: return pend_message(k, r->b, r->c);
     }

@@ -65,7 +65,7 @@ struct kernel {
 };
 
 struct answer {
-    uint8_t number, value, runner;
+    int number, value, runner;
 };
 
 /* How many records differ between two states. */
@@ -75,6 +75,7 @@ struct counts {
 
 void make_fresh(struct kernel *k);
 int event_is_true(const struct kernel *k, int event);
+uint8_t first_ready(const struct kernel *k);
 
 /* The answer to one call record; the state changes only where the number is 0. */
 struct answer call(struct kernel *k, const uint8_t record[RECORD]);
@@ -83,5 +84,7 @@ struct answer call_kept(struct kernel *k, const uint8_t record[RECORD]);
 
 int keeps_rules(const struct kernel *k);
 struct counts count_differences(const struct kernel *before, const struct kernel *after);
+/* All fields and all places. */
+int states_are_equal(const struct kernel *x, const struct kernel *y);
 
 #endif

@@ -1,4 +1,4 @@
-/* The state rules of document 01, one function for each group, and the counts of differing records. */
+/* The state rules of document 01, one function for each group; what differs between two states. */
 #include <string.h>
 
 #include "replay.h"
@@ -294,4 +294,25 @@ struct counts count_differences(const struct kernel *before, const struct kernel
     for (int i = 0; i < MESSAGES; i++)
         n.M += messages_differ(&before->messages[i], &after->messages[i]);
     return n;
+}
+
+static int same_places(const struct kernel *x, const struct kernel *y)
+{
+    return memcmp(x->ready, y->ready, sizeof x->ready) == 0
+        && memcmp(&x->time_queue, &y->time_queue, sizeof x->time_queue) == 0
+        && memcmp(x->channels, y->channels, sizeof x->channels) == 0
+        && memcmp(x->semaphore_waiters, y->semaphore_waiters, sizeof x->semaphore_waiters) == 0
+        && memcmp(x->event_waiters, y->event_waiters, sizeof x->event_waiters) == 0;
+}
+
+int states_are_equal(const struct kernel *x, const struct kernel *y)
+{
+    struct counts n = count_differences(x, y);
+    for (int e = 0; e < EVENTS; e++)
+        if (x->events[e].mode != y->events[e].mode || x->events[e].mask != y->events[e].mask
+            || x->events[e].values != y->events[e].values)
+            return 0;
+    return n.T == 0 && n.S == 0 && n.M == 0 && same_places(x, y) && x->uptime == y->uptime
+        && x->unscheduled == y->unscheduled && x->critical == y->critical
+        && x->running == y->running && x->bits == y->bits;
 }

@@ -1,8 +1,8 @@
-/* States made by hand: what keeps_rules must refuse and accept, number 14, and the counts T, S and M. */
+/* States made by hand: what keeps_rules must refuse and accept, number 14, the counts T, S and M, and some notes. */
 #include <stdio.h>
 #include <string.h>
 
-#include "replay.h"
+#include "notes.h"
 
 static struct kernel base, k;
 static int failures, checks;
@@ -16,13 +16,19 @@ static void expect(int holds, const char *what, int line)
     }
 }
 
-static struct answer ask(uint8_t kind, uint8_t a, uint16_t b, uint32_t c, uint32_t d)
+static void make_record(uint8_t r[RECORD], uint8_t kind, uint8_t a, uint16_t b, uint32_t c, uint32_t d)
 {
-    uint8_t r[RECORD] = { kind, a, (uint8_t)b, (uint8_t)(b >> 8) };
+    memcpy(r, (uint8_t[RECORD]){ kind, a, (uint8_t)b, (uint8_t)(b >> 8) }, RECORD);
     for (int i = 0; i < 4; i++) {
         r[4 + i] = (uint8_t)(c >> 8 * i);
         r[8 + i] = (uint8_t)(d >> 8 * i);
     }
+}
+
+static struct answer ask(uint8_t kind, uint8_t a, uint16_t b, uint32_t c, uint32_t d)
+{
+    uint8_t r[RECORD];
+    make_record(r, kind, a, b, c, d);
     return call(&k, r);
 }
 
@@ -290,9 +296,112 @@ static void reasons(void)
     EXPECT(!receiver->live && receiver->reply == 0 && receiver->timed_out_kind == 0);
 }
 
+/* ---- notes, worked out by hand from docs/LAYOUT.md ---- */
+
+#define EMPTY 0, 0
+/* The call's note has just these sections, and leads back. */
+#define NOTES(kind, a, b, c, d, ...) expect( \
+    notes_as((uint8_t[]){ __VA_ARGS__ }, sizeof (uint8_t[]){ __VA_ARGS__ }, kind, a, b, c, d), \
+    "note of " #kind ": " #__VA_ARGS__, __LINE__)
+
+static int notes_as(const uint8_t *sections, size_t n, uint8_t kind, uint8_t a, uint16_t b, uint32_t c, uint32_t d)
+{
+    static struct log log;
+    static struct kernel before, after;
+    uint8_t r[RECORD];
+    make_record(r, kind, a, b, c, d);
+    memcpy(&before, &k, sizeof k);
+    log.used = 0;
+    int right = call_noted(&k, r, &log).number == 0 && log.used == RECORD + n + 2
+        && memcmp(log.bytes, r, RECORD) == 0 && memcmp(log.bytes + RECORD, sections, n) == 0
+        && log.bytes[RECORD + n] == RECORD + n + 2 && log.bytes[RECORD + n + 1] == 0;
+    memcpy(&after, &k, sizeof k);
+    if (right)
+        undo_last(&after, &log);
+    return right && log.used == 0 && states_are_equal(&before, &after);
+}
+
+static void notes_of_threads(void)
+{
+    make_fresh(&k);
+    NOTES(2, 5, 0, 0, 0, EMPTY, 5, 0, 0, 0, 3, 0, 0, EMPTY, EMPTY, EMPTY); /* had neither priority */
+    memcpy(&k, &base, sizeof k);
+    NOTES(19, 0, 0, 0, 0, EMPTY, 9, 0, 0, 3, 0xc8, 9, 0, 0, 0, 2, 1, EMPTY, EMPTY, EMPTY); /* behind two ready ones */
+    memcpy(&k, &base, sizeof k);
+    NOTES(20, 0, 0, 0, 0, EMPTY, 4, 0, 3, 4, 0x40, 4, EMPTY, 3, 0, 0, 1, 1, EMPTY); /* was mode any */
+    NOTES(4, 6, 7, 0, 0, EMPTY, 4, 0, 6, 1, 0x40, 2, EMPTY, EMPTY, EMPTY); /* the same priority */
+}
+
+/* Thread 2 wakes at the seventh tick; at the ninth 0 and 1, which stand behind three ready threads, time out. */
+static void notes_of_ticks(void)
+{
+    memcpy(&k, &base, sizeof k);
+    for (int i = 1; i <= 9; i++)
+        if (i == 5 || i == 8)
+            NOTES(1, 0, 0, 0, 0, EMPTY, EMPTY, 2, 0, 1, 0, EMPTY, EMPTY); /* at the maximum: only its time was up */
+        else if (i == 7)
+            NOTES(1, 0, 0, 0, 0, EMPTY, 3, 0, 2, 2, 0, EMPTY, EMPTY, EMPTY);
+        else if (i == 9)
+            NOTES(1, 0, 0, 0, 0, EMPTY, 9, 0, 0, 3, 0x40, 3, 1, 3, 0xc0, 4, 1, EMPTY, EMPTY, EMPTY);
+        else
+            NOTES(1, 0, 0, 0, 0, EMPTY, EMPTY, EMPTY, EMPTY, EMPTY); /* ageing alone */
+    NOTES(16, 1, 0, 1, 1, EMPTY, EMPTY, 10, 0, 1, 0x18, 2, 0, 0, 0, 3, 0, 0, 0, EMPTY, EMPTY);
+    NOTES(16, 1, 0, 1, 1, EMPTY, EMPTY, EMPTY, EMPTY, EMPTY);
+    NOTES(1, 0, 0, 0, 0, EMPTY, EMPTY, 2, 0, 1, 0, EMPTY, EMPTY); /* the record stays, and yet it isn't ageing */
+}
+
+static void notes_of_levels_and_bits(void)
+{
+    memcpy(&k, &base, sizeof k);
+    NOTES(22, 1, 0, 0, 0, EMPTY, EMPTY, EMPTY, 1, 0, 8, EMPTY);
+    NOTES(22, 1, 0, 0, 0, EMPTY, EMPTY, EMPTY, EMPTY, EMPTY);
+    NOTES(8, 0, 0, 0, 0, EMPTY, EMPTY, EMPTY, EMPTY, EMPTY);
+    NOTES(10, 0, 0, 0, 0, 2, 0, 1, 2, EMPTY, EMPTY, EMPTY, EMPTY);
+    NOTES(11, 0, 0, 0, 0, EMPTY, EMPTY, EMPTY, EMPTY, EMPTY);
+    EXPECT(same(ask(2, 1, 0, 0, 0), 0, 7, 5));
+    NOTES(12, 0, 0, 0, 0, 2, 0, 4, 5, EMPTY, EMPTY, EMPTY, EMPTY); /* 7 runs now */
+}
+
+static void notes_of_messages(void)
+{
+    memcpy(&k, &base, sizeof k);
+    NOTES(24, 0, 1, 2, 3, EMPTY, EMPTY, EMPTY, EMPTY, 2, 0, 2, 0);
+    NOTES(26, 2, 5, 9, 0, EMPTY, EMPTY, EMPTY, EMPTY, 2, 0, 2, 0);
+    NOTES(27, 0, 256, 0, 0, EMPTY, EMPTY, EMPTY, EMPTY, 4, 0, 2, 0xc0, 9, 1); /* behind message 0 */
+    NOTES(25, 2, 0, 0, 0, EMPTY, EMPTY, EMPTY, EMPTY, 12, 0, 2, 0x38, 1, 0, 2, 0, 0, 0, 3, 0, 0, 0);
+    NOTES(3, 1, 0, 0, 0, EMPTY, 11, 0, 1, 3, 0xcb, 5, 5, 9, 0, 0, 0, 3, 2, EMPTY, EMPTY,
+          12, 0, 1, 0x38, 1, 0, 2, 0, 0, 0, 3, 0, 0, 0); /* held */
+    NOTES(3, 2, 0, 0, 0, EMPTY, 9, 0, 2, 2, 0x0b, 5, 5, 7, 0, 0, 0, EMPTY, EMPTY,
+          15, 0, 0, 0xfc, 1, 7, 0, 8, 0, 0, 0, 9, 0, 0, 0, 4, 0); /* queued, from another sender */
+}
+
+/* A log with room for a note of 28 bytes, but for none of 33. */
+static void full_log(void)
+{
+    static struct log log;
+    uint8_t r[RECORD];
+    make_record(r, 2, 5, 0, 0, 0);
+    make_fresh(&k);
+    log.used = LOG_LENGTH - 28;
+    EXPECT(same(call_noted(&k, r, &log), 13, 255, 255) && log.used == LOG_LENGTH - 28 && !k.threads[0].live);
+    make_record(r, 1, 0, 0, 0, 0);
+    EXPECT(same(call_noted(&k, r, &log), 0, 255, 255) && log.used == LOG_LENGTH && k.uptime == 1);
+    EXPECT(same(call_noted(&k, r, &log), 13, 255, 255) && log.used == LOG_LENGTH && k.uptime == 1);
+    undo_last(&k, &log);
+    EXPECT(k.uptime == 0 && log.used == LOG_LENGTH - 28);
+    log.used = LOG_LENGTH - 33;
+    make_record(r, 2, 5, 0, 0, 0);
+    EXPECT(same(call_noted(&k, r, &log), 0, 0, 0) && log.used == LOG_LENGTH);
+}
+
 int main(void)
 {
     make_base();
+    notes_of_threads();
+    notes_of_ticks();
+    notes_of_levels_and_bits();
+    notes_of_messages();
+    full_log();
     places();
     unused_store();
     time_queue();
