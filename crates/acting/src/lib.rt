@@ -1,11 +1,9 @@
-// What a call does, by its kind, and the value of its answer.
+// What a call does, by its kind.
 ghost use mathlib.Core.Path.{_≡_};
-ghost use Rattle.effects.specs.Effects.{effect, valueOf};
+ghost use Rattle.effects.specs.Effects.{effect};
 use calls::call::Call;
 use kernel::records::Kernel;
 use objects::semaphores;
-use seek::free;
-use seek::lines;
 
 pub fn effect(k: Kernel, c: Call) -> Kernel
     ensures { λ r. ⌜ r ≡ effect k c ⌝ }
@@ -43,32 +41,5 @@ pub fn effect(k: Kernel, c: Call) -> Kernel
         29 => signals::set_bit(k, c),
         30 => signals::clear_bit(k, c),
         _ => k,
-    }
-}
-
-// The created id, or the message received at once, else 255.
-pub fn value_of(k: Kernel, c: Call) -> u8
-    ensures { λ r. ⌜ r ≡ valueOf k c ⌝ }
-{
-    let kind = c.kind;
-    match kind {
-        2 => {
-            let threads = k.threads;
-            free::free_thread(threads)
-        }
-        14 => {
-            let semaphores = k.semaphores;
-            free::free_semaphore(semaphores)
-        }
-        24 => {
-            let messages = k.messages;
-            free::free_message(messages)
-        }
-        27 => {
-            let messages = k.messages;
-            let posted = k.posted;
-            lines::next_message(messages, posted, k.runner, c.b)
-        }
-        _ => 255,
     }
 }

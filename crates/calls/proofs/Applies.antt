@@ -1,19 +1,24 @@
--- The first that applies, of a list that is cut in two; and `refusals` cut in three, said of the records that are named.
-use Prim.Native.Nat.{ℕ}
-use mathlib.Core.Path.{_≡_, refl, sym, _∙_}
+-- The first that applies, of a list that is cut in two; and the number by the three parts, of what a call names, is document 01's.
+use Prim.Native.Nat.{ℕ, _+_, _<_}
+use mathlib.Core.Path.{_≡_, refl}
 use mathlib.Core.Bool.{Bool, true, false, not, cond, _&&_}
 use mathlib.Core.List.{List, [], _∷_, _++_}
+use native.Mathlib.Omega.{arith}
 use lib.Dec.{eqb}
-use lib.ListN.{take, drop}
-use borrow.Author.Tests.{not-true, eqb-true, eqb-false}
+use lib.ListN.{length, take, drop}
+use borrow.Author.Tests.{not-true, eqb-true, eqb-false, ne-eqb}
+use borrow.Table.Steps.{cases}
 use Rattle.kernel.specs.declared.records.Kernel.{Kernel}
 use Rattle.kernel.specs.Records.{thread, semaphore, event, message, noSemaphore, noMessage}
 use Rattle.kernel.specs.Events.{isTrue}
 use Rattle.kernel.specs.Places.{isQueued}
 use Rattle.seek.specs.Channels.{nextMessage}
+use Rattle.seek.proofs.Firsts.{first-empty}
 use Rattle.calls.specs.declared.call.Call.{Call}
-use Rattle.calls.specs.Refusals.{is, isOneOf, interruptsOff, noCaller, badId, isInChannel, notOwner, notPeriodic, stopsCaller, blocksInRegion, refusals, firstThatApplies, numberOf}
-use Rattle.calls.specs.Named.{namedBy, badIdOf, stopsCallerOf, blocksOf, firstNumber, secondNumber, thirdNumber}
+use Rattle.calls.specs.Refusals.{is, isOneOf, interruptsOff, noCaller, badId, isInChannel, notOwner, hasWaiters, notPeriodic}
+use Rattle.calls.specs.Refusals.{popsNothing, stopsCaller, blocksInRegion, noneFree, refusals, firstThatApplies, numberOf}
+use Rattle.calls.specs.Named.{waiterBy, foundBy, namedBy, badIdOf, hasWaitersOf, stopsCallerOf, blocksOf, noneFreeOf}
+use Rattle.calls.specs.Named.{firstNumber, secondNumber, thirdNumber, orElse, numberFrom}
 
 pub and-left : (a b : Bool) → (a && b) ≡ true → a ≡ true
 and-left true b e = refl
@@ -33,27 +38,23 @@ lacks n (t ∷ l) = let r = lacks n l in not (eqb (t .0) n) && r
 pub lacks-head : (n : ℕ) (t : ℕ × Bool) (l : List (ℕ × Bool)) → lacks n (t ∷ l) ≡ true → t .0 ≡ n → ⊥
 lacks-head n t l z = eqb-false (t .0) n (not-true (eqb (t .0) n) (and-left (not (eqb (t .0) n)) (lacks n l) z))
 
-module _ (m : List (ℕ × Bool)) where
-  -- one of the first list applies: it is the first of both
-  first-applies : (l : List (ℕ × Bool)) → (firstThatApplies l ≡ 0 → ⊥) → firstThatApplies l ≡ firstThatApplies (l ++ m)
-  first-applies [] h = absurd (h refl)
-  first-applies ((n, true) ∷ l) h = refl
-  first-applies ((n, false) ∷ l) h = first-applies l h
-
-  -- none of it does: the second list is left
-  none-applies : (l : List (ℕ × Bool)) → lacks 0 l ≡ true → firstThatApplies l ≡ 0 → firstThatApplies m ≡ firstThatApplies (l ++ m)
-  none-applies [] z h = refl
-  none-applies ((n, true) ∷ l) z h = absurd (lacks-head 0 (n, true) l z h)
-  none-applies ((n, false) ∷ l) z h = none-applies l (and-right (not (eqb n 0)) (lacks 0 l) z) h
+-- the first of a list, or else of a second one, is the first of both
+or-else : (m l : List (ℕ × Bool)) → lacks 0 l ≡ true → orElse (firstThatApplies l) (firstThatApplies m) ≡ firstThatApplies (l ++ m)
+or-else m [] z = refl
+or-else m ((n, true) ∷ l) z = rw (ne-eqb n 0 (lacks-head 0 (n, true) l z))
+or-else m ((n, false) ∷ l) z = or-else m l (and-right (not (eqb n 0)) (lacks 0 l) z)
 
 -- what is asked of a named record is asked of the kinds that name it
 and-not : (p q : Bool) → (p && not (p && q)) ≡ (p && not q)
 and-not true q = refl
 and-not false q = refl
 
+and-same : {A : Type 0} (f : A → Bool) (p : Bool) {x y : A} → (p ≡ true → x ≡ y) → (p && f x) ≡ (p && f y)
+and-same f true h = rw (h refl)
+and-same f false h = refl
+
 and-cond : {A : Type 0} (f : A → Bool) (p q : Bool) (x y : A) → (p ≡ true → q ≡ true) → (p && f (cond q x y)) ≡ (p && f x)
-and-cond f true q x y h = rw (h refl)
-and-cond f false q x y h = refl
+and-cond f p q x y h = and-same f p (λ e. rw (h e))
 
 module _ (k : Kernel) (c : Call) where
   abbrev ofSemaphores : Bool
@@ -82,32 +83,46 @@ module _ (k : Kernel) (c : Call) where
         and-cond (λ m. not (eqb (m .owner) (k .runner))) ofMessages ofMessages (message k (c .a)) noMessage (λ e. e),
       )
 
-  stops-named : stopsCallerOf (namedBy k c) (k .runner) (nextMessage k (c .b)) c ≡ stopsCaller k c
+  received : is c 27 ≡ true → foundBy k c ≡ nextMessage k (c .b)
+  unfolding foundBy
+  received e = rw (eqb-true (c .kind) 27 e)
+
+  stops-named : stopsCallerOf (namedBy k c) (k .runner) c ≡ stopsCaller k c
   unfolding stopsCallerOf stopsCaller namedBy
   stops-named =
       rw (
         and-cond (λ s. eqb (s .count) 0) (is c 18) ofSemaphores (semaphore k (c .a)) noSemaphore (λ e. rw (eqb-true (c .kind) 18 e)),
         and-not (is c 21) (isTrue (k .bits) (event k (c .a))),
+        and-same (λ n. eqb n 255) (is c 27) received,
       )
 
-  third-named : thirdNumber k (namedBy k c) c ≡ firstThatApplies (drop 7 (refusals k c))
-  unfolding thirdNumber notPeriodic blocksInRegion blocksOf namedBy
-  third-named =
-      rw (and-cond (λ s. eqb (s .period) 0) (is c 17) ofSemaphores (semaphore k (c .a)) noSemaphore (λ e. rw (eqb-true (c .kind) 17 e)), stops-named)
+  free-named : noneFreeOf (k .unscheduled) (k .critical) (namedBy k c) c ≡ noneFree k c
+  unfolding noneFreeOf noneFree namedBy foundBy
+  free-named =
+      cases (is c 2) (λ e. rw (eqb-true (c .kind) 2 e))
+      (λ e. cases (is c 14) (λ f. rw (eqb-true (c .kind) 14 f)) (λ f. cases (is c 24) (λ g. rw (eqb-true (c .kind) 24 g)) (λ g. rw (e, f, g))))
 
-  -- each part of the code's three gives the number where those before it give 0
-  pub by-first : (firstNumber (k .critical) (k .runner) c ≡ 0 → ⊥) → firstNumber (k .critical) (k .runner) c ≡ numberOf k c
-  unfolding firstNumber numberOf interruptsOff noCaller
-  by-first h = first-applies (drop 4 (refusals k c)) (take 4 (refusals k c)) h
+  -- 255 says that nobody waits: so many threads there are, and a is a byte
+  module _ (all : length (k .threads) ≡ 32) (byte : c .a < 256) where
+    waiters-named : hasWaitersOf (namedBy k c) c ≡ hasWaiters k c
+    unfolding hasWaitersOf hasWaiters namedBy waiterBy
+    waiters-named =
+        let b : 256 + c .a < 1024 = omega arith in
+        cases (is c 15) (λ e. rw (eqb-true (c .kind) 15 e, first-empty (k .threads) all (k .places) b)) (λ e. rw e)
 
-  past-first : firstNumber (k .critical) (k .runner) c ≡ 0 → firstThatApplies (drop 4 (refusals k c)) ≡ numberOf k c
-  unfolding firstNumber numberOf interruptsOff noCaller
-  past-first h = none-applies (drop 4 (refusals k c)) (take 4 (refusals k c)) refl h
+    third-named : thirdNumber (k .unscheduled) (k .critical) (k .runner) (namedBy k c) c ≡ firstThatApplies (drop 7 (refusals k c))
+    unfolding thirdNumber notPeriodic popsNothing blocksInRegion blocksOf namedBy
+    third-named =
+        rw (
+          waiters-named,
+          and-cond (λ s. eqb (s .period) 0) (is c 17) ofSemaphores (semaphore k (c .a)) noSemaphore (λ e. rw (eqb-true (c .kind) 17 e)),
+          stops-named,
+          free-named,
+        )
 
-  pub by-second : firstNumber (k .critical) (k .runner) c ≡ 0 → (secondNumber (namedBy k c) (k .runner) c ≡ 0 → ⊥)
-      → secondNumber (namedBy k c) (k .runner) c ≡ numberOf k c
-  by-second e h = second-named ∙ (first-applies (drop 7 (refusals k c)) (take 3 (drop 4 (refusals k c))) (λ z. h (second-named ∙ z)) ∙ past-first e)
-
-  pub by-third : firstNumber (k .critical) (k .runner) c ≡ 0 → secondNumber (namedBy k c) (k .runner) c ≡ 0
-      → thirdNumber k (namedBy k c) c ≡ numberOf k c
-  by-third e h = third-named ∙ (none-applies (drop 7 (refusals k c)) (take 3 (drop 4 (refusals k c))) refl (sym second-named ∙ h) ∙ past-first e)
+    -- the number by the parts, of what the call names, is document 01's
+    pub number-from : numberFrom (k .unscheduled) (k .critical) (k .runner) (namedBy k c) c ≡ numberOf k c
+    unfolding numberFrom firstNumber numberOf interruptsOff noCaller
+    number-from =
+        let l = refusals k c in
+        rw (second-named, third-named, or-else (drop 7 l) (take 3 (drop 4 l)) refl) (or-else (drop 4 l) (take 4 l) refl)

@@ -1,19 +1,33 @@
--- What the refusals need to know of the records that a call names: small enough to be passed on.
-use Prim.Native.Nat.{ℕ}
+-- What the refusals and the answer need to know of the state: small enough to be passed on.
+use Prim.Native.Nat.{ℕ, _+_}
 use mathlib.Core.Bool.{Bool, false, not, cond, _&&_}
 use mathlib.Core.List.{[], _∷_}
 use lib.Dec.{eqb, ltb}
 use Rattle.kernel.specs.declared.records.Kernel.{Kernel}
 use Rattle.kernel.specs.Records.{thread, semaphore, event, message, noSemaphore, noMessage}
 use Rattle.kernel.specs.Events.{isTrue}
-use Rattle.kernel.specs.Places.{isQueued}
+use Rattle.kernel.specs.Places.{semaphoreHome, isQueued}
+use Rattle.seek.specs.Free.{freeThread, freeSemaphore, freeMessage}
+use Rattle.seek.specs.Channels.{nextMessage}
+use Rattle.seek.specs.Lines.{firstOfLine}
 use Rattle.calls.specs.declared.call.Call.{Call}
 use Rattle.calls.specs.declared.named.Named.{Named}
-use Rattle.seek.specs.Channels.{nextMessage}
 use Rattle.calls.specs.Kinds.{fromInterrupt, fromThread}
-use Rattle.calls.specs.Refusals.{someOf, is, isOneOf, inRegion, unknown, badNumber, hasWaiters, popsNothing, noneFree, firstThatApplies}
+use Rattle.calls.specs.Refusals.{someOf, is, isOneOf, unknown, badNumber, popsNothingAt, firstThatApplies}
 
--- thread a, thread b, semaphore a, event a and message a, of the kinds that name them
+-- the first that waits for semaphore a, of the kinds that it stops or that wake it, else 255
+unfoldable pub waiterBy : Kernel → Call → ℕ
+waiterBy k c = cond (isOneOf c (15 ∷ 19 ∷ 28 ∷ [])) (firstOfLine (k .threads) (k .places) (semaphoreHome (c .a))) 255
+
+-- "A value (created id, message received at once, else 255)": the lowest free id of what is created, the message that a pend takes
+unfoldable pub foundBy : Kernel → Call → ℕ
+foundBy k c =
+    cond (is c 2) (freeThread k)
+    (cond (is c 14) (freeSemaphore k)
+    (cond (is c 24) (freeMessage k)
+    (cond (is c 27) (nextMessage k (c .b)) 255)))
+
+-- thread a, thread b, semaphore a, event a and message a, of the kinds that name them, and these two
 unfoldable pub namedBy : Kernel → Call → Named
 namedBy k c =
     record {
@@ -22,9 +36,11 @@ namedBy k c =
       semaphore = cond (isOneOf c (15 ∷ 16 ∷ 17 ∷ 18 ∷ 19 ∷ 28 ∷ [])) (semaphore k (c .a)) noSemaphore;
       truth = is c 21 && isTrue (k .bits) (event k (c .a));
       message = cond (isOneOf c (25 ∷ 26 ∷ [])) (message k (c .a)) noMessage;
+      waiter = waiterBy k c;
+      found = foundBy k c;
     }
 
--- `badId`, `isInChannel`, `notOwner` and `stopsCaller` of Refusals, said of these
+-- the conditions of Refusals, said of these
 unfoldable pub badIdOf : Named → Call → Bool
 badIdOf n c =
     someOf
@@ -36,18 +52,29 @@ badIdOf n c =
     ∷ (isOneOf c (25 ∷ 26 ∷ []) && not (n .message .live))
     ∷ [])
 
-unfoldable pub stopsCallerOf : Named → ℕ → ℕ → Call → Bool
-stopsCallerOf n runner next c =
+unfoldable pub hasWaitersOf : Named → Call → Bool
+hasWaitersOf n c = is c 15 && not (eqb (n .waiter) 255)
+
+unfoldable pub stopsCallerOf : Named → ℕ → Call → Bool
+stopsCallerOf n runner c =
     someOf
     ((is c 18 && eqb (n .semaphore .count) 0)
     ∷ (is c 21 && not (n .truth))
-    ∷ (is c 27 && eqb next 255)
+    ∷ (is c 27 && eqb (n .found) 255)
     ∷ isOneOf c (6 ∷ 7 ∷ [])
     ∷ (is c 3 && eqb (c .a) runner)
     ∷ [])
 
-unfoldable pub blocksOf : Kernel → Named → Call → Bool
-blocksOf k n c = inRegion k && stopsCallerOf n (k .runner) (nextMessage k (c .b)) c
+unfoldable pub blocksOf : ℕ → ℕ → ℕ → Named → Call → Bool
+blocksOf unscheduled critical runner n c = ltb 0 (unscheduled + critical) && stopsCallerOf n runner c
+
+unfoldable pub noneFreeOf : ℕ → ℕ → Named → Call → Bool
+noneFreeOf unscheduled critical n c =
+    someOf
+    ((isOneOf c (2 ∷ 14 ∷ 24 ∷ []) && eqb (n .found) 255)
+    ∷ (is c 8 && eqb unscheduled 255)
+    ∷ (is c 11 && eqb critical 255)
+    ∷ [])
 
 -- `refusals` cut in three: before the ids are looked at, of the records that are named, of what the call would do
 unfoldable pub firstNumber : ℕ → ℕ → Call → ℕ
@@ -67,15 +94,35 @@ secondNumber n runner c =
     ∷ (8, isOneOf c (25 ∷ 26 ∷ []) && not (eqb (n .message .owner) runner))
     ∷ [])
 
-unfoldable pub thirdNumber : Kernel → Named → Call → ℕ
-thirdNumber k n c =
+unfoldable pub thirdNumber : ℕ → ℕ → ℕ → Named → Call → ℕ
+thirdNumber unscheduled critical runner n c =
     firstThatApplies
-    ((10, hasWaiters k c)
+    ((10, hasWaitersOf n c)
     ∷ (12, is c 17 && eqb (n .semaphore .period) 0)
-    ∷ (11, popsNothing k c)
-    ∷ (6, blocksOf k n c)
-    ∷ (7, noneFree k c)
+    ∷ (11, popsNothingAt unscheduled critical c)
+    ∷ (6, blocksOf unscheduled critical runner n c)
+    ∷ (7, noneFreeOf unscheduled critical n c)
     ∷ [])
 
-abbrev pub nobody : Named
-nobody = record { thread = false; other = false; semaphore = noSemaphore; truth = false; message = noMessage }
+-- the first of two numbers that isn't 0
+abbrev pub orElse : ℕ → ℕ → ℕ
+orElse first second = cond (eqb first 0) second first
+
+-- `numberOf` of Refusals, by the two levels, who runs and what the call names: the three parts in order
+unfoldable pub numberFrom : ℕ → ℕ → ℕ → Named → Call → ℕ
+numberFrom unscheduled critical runner n c =
+    orElse (firstNumber critical runner c)
+    (orElse (secondNumber n runner c) (thirdNumber unscheduled critical runner n c))
+
+-- no record
+abbrev pub nobody : ℕ → ℕ → Named
+nobody waiter found =
+    record {
+      thread = false;
+      other = false;
+      semaphore = noSemaphore;
+      truth = false;
+      message = noMessage;
+      waiter = waiter;
+      found = found;
+    }

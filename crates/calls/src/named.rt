@@ -1,39 +1,89 @@
-// The records that a call names.
+// What a call needs of the state, looked up once.
 ghost use mathlib.Core.Path.{_≡_};
-ghost use Rattle.calls.specs.Named.{nobody, namedBy};
+ghost use Rattle.calls.specs.Named.{nobody, waiterBy, foundBy, namedBy};
 use crate::call::Call;
 use kernel::records::Kernel;
 use kernel::records::Message;
 use kernel::records::Semaphore;
 use kernel::records::no_message;
 use kernel::records::no_semaphore;
+use seek::free;
+use seek::lines;
 use seek::records;
 
-// What the refusals need to know of thread a, thread b, semaphore a, event a and message a, of the kinds that name them.
+// What the refusals need to know of thread a, thread b, semaphore a, event a and message a, of the kinds that name them; the first
+// that waits for semaphore a; and what the call answers. The bytes come last, so that it takes forty.
 pub struct Named {
+    pub semaphore: Semaphore,
+    pub message: Message,
     pub thread: bool,
     pub other: bool,
-    pub semaphore: Semaphore,
     pub truth: bool,
-    pub message: Message,
+    pub waiter: u8,
+    pub found: u8,
 }
 
-fn nothing() -> Named
-    ensures { λ r. ⌜ r ≡ nobody ⌝ }
+// No record.
+fn nothing(waiter: u8, found: u8) -> Named
+    ensures { λ r. ⌜ r ≡ nobody waiter found ⌝ }
 {
     Named {
+        semaphore: no_semaphore(),
+        message: no_message(),
         thread: false,
         other: false,
-        semaphore: no_semaphore(),
         truth: false,
-        message: no_message(),
+        waiter: waiter,
+        found: found,
+    }
+}
+
+// The first that waits for semaphore a, of the kinds that a waiter stops or that wake one, else 255.
+fn waiter_by(k: Kernel, c: Call) -> u8
+    ensures { λ r. ⌜ r ≡ waiterBy k c ⌝ }
+{
+    let kind = c.kind;
+    match kind {
+        15 | 19 | 28 => {
+            let threads = k.threads;
+            let places = k.places;
+            lines::first_of_line(threads, places, 256 + (c.a as u16))
+        }
+        _ => 255,
+    }
+}
+
+// The created id, or the message received at once, else 255.
+fn found_by(k: Kernel, c: Call) -> u8
+    ensures { λ r. ⌜ r ≡ foundBy k c ⌝ }
+{
+    let kind = c.kind;
+    match kind {
+        2 => {
+            let threads = k.threads;
+            free::free_thread(threads)
+        }
+        14 => {
+            let semaphores = k.semaphores;
+            free::free_semaphore(semaphores)
+        }
+        24 => {
+            let messages = k.messages;
+            free::free_message(messages)
+        }
+        27 => {
+            let messages = k.messages;
+            let posted = k.posted;
+            lines::next_message(messages, posted, k.runner, c.b)
+        }
+        _ => 255,
     }
 }
 
 pub fn named_by(k: Kernel, c: Call) -> Named
     ensures { λ r. ⌜ r ≡ namedBy k c ⌝ }
 {
-    let mut n = nothing();
+    let mut n = nothing(waiter_by(k, c), found_by(k, c));
     let kind = c.kind;
     match kind {
         3 | 4 | 5 => {

@@ -1,14 +1,11 @@
 // The refusals, in the order of document 01's table.
 ghost use mathlib.Core.Path.{_≡_};
 ghost use mathlib.Core.List.{[], _∷_};
-ghost use Rattle.calls.specs.Refusals.{isOneOf, outside, unknown, badNumber, hasWaiters, popsNothingAt, noneFree, numberOf};
-ghost use Rattle.calls.specs.Named.{badIdOf, stopsCallerOf, blocksOf, firstNumber, secondNumber, thirdNumber};
+ghost use Rattle.calls.specs.Refusals.{isOneOf, outside, unknown, badNumber, popsNothingAt};
+ghost use Rattle.calls.specs.Named.{badIdOf, hasWaitersOf, stopsCallerOf, blocksOf, noneFreeOf};
+ghost use Rattle.calls.specs.Named.{firstNumber, secondNumber, thirdNumber, numberFrom};
 use calls::call::Call;
-use calls::named;
 use calls::named::Named;
-use kernel::records::Kernel;
-use seek::free;
-use seek::lines;
 
 mod kinds;
 
@@ -89,15 +86,13 @@ fn names_message(c: Call) -> bool
 }
 
 // Kind 15, where threads wait on the semaphore.
-fn has_waiters(k: Kernel, c: Call) -> bool
-    ensures { λ r. ⌜ r ≡ hasWaiters k c ⌝ }
+fn has_waiters(n: Named, c: Call) -> bool
+    ensures { λ r. ⌜ r ≡ hasWaitersOf n c ⌝ }
 {
     if c.kind != 15 {
         return false;
     }
-    let threads = k.threads;
-    let places = k.places;
-    lines::first_of_line(threads, places, 256 + (c.a as u16)) != 255
+    n.waiter != 255
 }
 
 fn pops_nothing(unscheduled: u8, critical: u8, c: Call) -> bool
@@ -111,8 +106,8 @@ fn pops_nothing(unscheduled: u8, critical: u8, c: Call) -> bool
     }
 }
 
-fn stops_caller(n: Named, runner: u8, next: u8, c: Call) -> bool
-    ensures { λ r. ⌜ r ≡ stopsCallerOf n runner next c ⌝ }
+fn stops_caller(n: Named, runner: u8, c: Call) -> bool
+    ensures { λ r. ⌜ r ≡ stopsCallerOf n runner c ⌝ }
 {
     let kind = c.kind;
     match kind {
@@ -120,46 +115,32 @@ fn stops_caller(n: Named, runner: u8, next: u8, c: Call) -> bool
         6 | 7 => true,
         18 => n.semaphore.count == 0,
         21 => !n.truth,
-        27 => next == 255,
+        27 => n.found == 255,
         _ => false,
     }
 }
 
 // A level is above 0, and the call would stop the caller.
-fn blocks_in_region(k: Kernel, n: Named, c: Call) -> bool
-    ensures { λ r. ⌜ r ≡ blocksOf k n c ⌝ }
+fn blocks_in_region(unscheduled: u8, critical: u8, runner: u8, n: Named, c: Call) -> bool
+    ensures { λ r. ⌜ r ≡ blocksOf unscheduled critical runner n c ⌝ }
 {
-    if k.unscheduled == 0 {
-        if k.critical == 0 {
+    if unscheduled == 0 {
+        if critical == 0 {
             return false;
         }
     }
-    let messages = k.messages;
-    let posted = k.posted;
-    let next = lines::next_message(messages, posted, k.runner, c.b);
-    stops_caller(n, k.runner, next, c)
+    stops_caller(n, runner, c)
 }
 
 // No free id, or a push at level 255.
-fn none_free(k: Kernel, c: Call) -> bool
-    ensures { λ r. ⌜ r ≡ noneFree k c ⌝ }
+fn none_free(unscheduled: u8, critical: u8, n: Named, c: Call) -> bool
+    ensures { λ r. ⌜ r ≡ noneFreeOf unscheduled critical n c ⌝ }
 {
     let kind = c.kind;
     match kind {
-        2 => {
-            let threads = k.threads;
-            free::free_thread(threads) == 255
-        }
-        8 => k.unscheduled == 255,
-        11 => k.critical == 255,
-        14 => {
-            let semaphores = k.semaphores;
-            free::free_semaphore(semaphores) == 255
-        }
-        24 => {
-            let messages = k.messages;
-            free::free_message(messages) == 255
-        }
+        2 | 14 | 24 => n.found == 255,
+        8 => unscheduled == 255,
+        11 => critical == 255,
         _ => false,
     }
 }
@@ -203,10 +184,10 @@ fn second_refusal(n: Named, runner: u8, c: Call) -> u8
 }
 
 // The refusals of what it would do.
-fn third_refusal(k: Kernel, n: Named, c: Call) -> u8
-    ensures { λ r. ⌜ r ≡ thirdNumber k n c ⌝ }
+fn third_refusal(unscheduled: u8, critical: u8, runner: u8, n: Named, c: Call) -> u8
+    ensures { λ r. ⌜ r ≡ thirdNumber unscheduled critical runner n c ⌝ }
 {
-    if has_waiters(k, c) {
+    if has_waiters(n, c) {
         return 10;
     }
     if c.kind == 17 {
@@ -214,27 +195,30 @@ fn third_refusal(k: Kernel, n: Named, c: Call) -> u8
             return 12;
         }
     }
-    if pops_nothing(k.unscheduled, k.critical, c) {
+    if pops_nothing(unscheduled, critical, c) {
         return 11;
     }
-    if blocks_in_region(k, n, c) {
+    if blocks_in_region(unscheduled, critical, runner, n, c) {
         return 6;
     }
-    if none_free(k, c) { 7 } else { 0 }
+    if none_free(unscheduled, critical, n, c) {
+        7
+    } else {
+        0
+    }
 }
 
-// The number of the answer: 0 where the call is accepted.
-pub fn number_of(k: Kernel, c: Call) -> u8
-    ensures { λ r. ⌜ r ≡ numberOf k c ⌝ }
+// The number of the answer, by the levels, who runs and what the call names: 0 where it is accepted.
+pub fn number_of(unscheduled: u8, critical: u8, runner: u8, n: Named, c: Call) -> u8
+    ensures { λ r. ⌜ r ≡ numberFrom unscheduled critical runner n c ⌝ }
 {
-    let first = first_refusal(k.critical, k.runner, c);
+    let first = first_refusal(critical, runner, c);
     if first != 0 {
         return first;
     }
-    let n = named::named_by(k, c);
-    let second = second_refusal(n, k.runner, c);
+    let second = second_refusal(n, runner, c);
     if second != 0 {
         return second;
     }
-    third_refusal(k, n, c)
+    third_refusal(unscheduled, critical, runner, n, c)
 }

@@ -1,48 +1,75 @@
 -- The branches of the undo, each from what its tests have found.
-use Prim.Native.Nat.{ℕ, _-_, _≤_, _<_}
+use Prim.Native.Nat.{ℕ, _+_, _-_, _≤_, _<_}
 use mathlib.Core.Path.{_≡_, refl, sym, ap, _∙_}
 use mathlib.Core.Bool.{true, false, cond, and-true, and-eq-true-iff, false≢true}
-use mathlib.Core.List.{List, []}
+use mathlib.Core.List.{List, [], _++_}
 use native.Mathlib.Omega.{arith}
 use lib.Dec.{eqb, ltb}
-use lib.ListN.{length, take, drop, drop-of-length-le}
-use borrow.Author.Tests.{eqb-true, eq-eqb, lt-ltb, ltb-true, ltb-false, leb-true}
+use lib.ListN.{length, take, drop, replicate, length-append, length-replicate, drop-of-length-le}
+use lib.Seq.{take-at}
+use borrow.Author.Tests.{eqb-true, eq-eqb, lt-ltb, le-leb, ltb-true, ltb-false, leb-true}
 use borrow.Table.Steps.{cases}
 use Rattle.coding.specs.Bytes.{un}
+use Rattle.coding.proofs.Appending.{noted-room}
 use Rattle.kernel.specs.declared.records.Kernel.{Kernel}
 use Rattle.rules.specs.Tests.{keepsRules}
 use Rattle.calls.specs.declared.call.Call.{Call}
 use Rattle.calls.specs.Calls.{callOf}
 use Rattle.calls.specs.Refusals.{numberOf}
-use Rattle.threads.specs.Parts.{scheduled}
-use Rattle.effects.specs.Effects.{effect}
+use Rattle.effects.specs.Effects.{valueOf}
 use Rattle.notes.specs.Touched.{sameRow}
-use Rattle.notes.specs.Notes.{noteOf}
 use Rattle.notes.specs.Same.{sameKernel}
 use Rattle.notes.specs.Back.{Sections, stateBefore}
 use Rattle.notes.specs.Frames.{nothing, sections, isWhole, framesFrom, framesOf}
 use Rattle.notes.specs.Undo.{lastLength, hasLast, lastNote}
 use Rattle.notes.specs.Undoes.{recordIn, backFrom, isDecoded, levelsFit, yieldsAgain, undoesNote, undoes}
-use Rattle.notes.specs.Spans.{noteIn}
 use Rattle.notes.proofs.SpansOfCalls.{note-in}
+use Rattle.noting.proofs.Fronts.{note-short}
 use Rattle.reading.specs.declared.state_back.Back.{Back}
 use Rattle.reading.specs.Restored.{backOf}
-use Rattle.replay.specs.declared.step.Stepped.{Stepped}
 use Rattle.replay.specs.declared.logs.Logged.{Logged}
-use Rattle.replay.specs.Steps.{answer, refused, accepted, step}
-use Rattle.replay.specs.Logs.{logged, undone}
+use Rattle.replay.specs.Steps.{answer}
+use Rattle.replay.specs.Logs.{logged, nextOf, noteFor, recorded, logAfter, undone}
 
--- a step that answers 0 was accepted, any other was refused with its number
-module _ (k : Kernel) (c : Call) where
-  pub step-accepted : step k c .answer .number ≡ 0 → (numberOf k c ≡ 0) × (step k c ≡ accepted k c)
-  unfolding step
-  step-accepted h =
-      cases (eqb (numberOf k c) 0) (λ e. (eqb-true (numberOf k c) 0 e, rw e))
-      (λ e. let n : numberOf k c ≡ 0 = rw e at h in absurd (false≢true (sym e ∙ eq-eqb (numberOf k c) 0 n)))
+-- The call run again on a log of 2,048 bytes, which has room for any note: s is what comes back.
+module _ (k : Kernel) (bytes : List ℕ) (sixteen : length bytes ≡ 16) (all : length (k .threads) ≡ 32) (s : Logged) (e : s ≡ recorded k bytes (replicate 2048 0) 0) where
+  room-for-any : numberOf k (callOf bytes) ≡ 0 → 0 + length (noteFor k bytes) ≤ length {A = ℕ} (replicate 2048 0)
+  unfolding noteFor
+  room-for-any n = rw (length-replicate, ← note-in k bytes all n) (omega (arith, note-short k bytes (nextOf k bytes) (valueOf k (callOf bytes)) sixteen))
 
-  pub step-refused : (step k c .answer .number ≡ 0 → ⊥) → (eqb (numberOf k c) 0 ≡ false) × (step k c ≡ refused (numberOf k c) k)
-  unfolding step
-  step-refused h = cases (eqb (numberOf k c) 0) (λ e. absurd (h (rw e))) (λ e. (e, rw e))
+  pub run-refused : (s .answer .number ≡ 0 → ⊥) → eqb (numberOf k (callOf bytes)) 0 ≡ false
+  unfolding recorded
+  run-refused h =
+      cases (eqb (numberOf k (callOf bytes)) 0)
+      (λ z. let fits = le-leb _ _ (room-for-any (eqb-true (numberOf k (callOf bytes)) 0 z)) in
+      absurd (h (ap (λ (x : Logged). x .answer .number) e ∙ rw (z, fits)))) (λ z. z)
+
+  module _ (z : s .answer .number ≡ 0) where
+    pub run-accepted : (numberOf k (callOf bytes) ≡ 0) × (s ≡ logged (answer 0 (valueOf k (callOf bytes)) (nextOf k bytes .runner)) (nextOf k bytes) (0 + length (noteFor k bytes)))
+    unfolding recorded
+    run-accepted =
+        cases (eqb (numberOf k (callOf bytes)) 0)
+        (λ y. let n = eqb-true (numberOf k (callOf bytes)) 0 y in
+        let fits = le-leb _ _ (room-for-any n) in
+        (n, e ∙ rw (y, fits)))
+        (λ y. let n : numberOf k (callOf bytes) ≡ 0 = sym (ap (λ (x : Logged). x .answer .number) e ∙ rw y) ∙ z in
+        absurd (false≢true (sym y ∙ eq-eqb (numberOf k (callOf bytes)) 0 n)))
+
+    pub run-next : s .kernel ≡ nextOf k bytes
+    run-next = ap (λ (x : Logged). x .kernel) (run-accepted .1)
+
+    -- the note stands at the front of the log
+    pub note-stands : (log : List ℕ) → log ≡ logAfter k bytes (replicate 2048 0) 0
+        → (s .used ≤ length log) × (take (s .used) log ≡ noteFor k bytes) × (s .used ≡ length (noteFor k bytes))
+    unfolding logAfter
+    note-stands log f =
+        let (n, a) = run-accepted in
+        let y = eq-eqb (numberOf k (callOf bytes)) 0 n in
+        let h = room-for-any n in
+        let v : s .used ≡ 0 + length (noteFor k bytes) = ap (λ (x : Logged). x .used) a in
+        let u : s .used ≡ length (noteFor k bytes) = omega (arith, v) in
+        let g : log ≡ noteFor k bytes ++ drop (0 + length (noteFor k bytes)) (replicate 2048 0) = f ∙ rw (y, noted-room (replicate 2048 0) 0 (noteFor k bytes) h) in
+        (rw (g, length-append, u) (omega arith), rw (g, u) (take-at (noteFor k bytes) _ _ refl), u)
 
 -- a state's own levels are bytes
 pub levels-fit : (k : Kernel) → k .unscheduled < 256 → k .critical < 256 → levelsFit k ≡ true
@@ -59,36 +86,23 @@ module _ (k : Kernel) (bytes : List ℕ) (end : Kernel) (note : List ℕ) where
     unfolding yieldsAgain
     again-broken e = rw (l, e)
 
-    module _ (r : keepsRules k ≡ true) (s : Stepped) (e : s ≡ step k (callOf bytes)) where
-      pub again-refused : (s .answer .number ≡ 0 → ⊥) → false ≡ yieldsAgain k bytes end note
+    module _ (r : keepsRules k ≡ true) where
+      pub again-refused : eqb (numberOf k (callOf bytes)) 0 ≡ false → false ≡ yieldsAgain k bytes end note
       unfolding yieldsAgain
-      again-refused h =
-          let (n, _) = step-refused k (callOf bytes) (λ z. h (ap (λ (x : Stepped). x .answer .number) e ∙ z)) in
-          rw (l, r, n)
+      again-refused n = rw (l, r, n)
 
-      module _ (z : s .answer .number ≡ 0) where
-        run-again : (numberOf k (callOf bytes) ≡ 0) × (s ≡ accepted k (callOf bytes))
-        run-again =
-            let (n, a) = step-accepted k (callOf bytes) (ap (λ (x : Stepped). x .answer .number) (sym e) ∙ z) in
-            (n, e ∙ a)
-
-        same-next : s .kernel ≡ scheduled (effect k (callOf bytes))
-        same-next = ap (λ (x : Stepped). x .kernel) (run-again .1)
-
-        pub again-other : sameKernel (s .kernel) end ≡ false → false ≡ yieldsAgain k bytes end note
+      module _ (n : numberOf k (callOf bytes) ≡ 0) (next : Kernel) (e : next ≡ nextOf k bytes) where
+        pub again-other : sameKernel next end ≡ false → false ≡ yieldsAgain k bytes end note
         unfolding yieldsAgain
         again-other h =
-            let o : sameKernel (scheduled (effect k (callOf bytes))) end ≡ false = ap (λ (u : Kernel). sameKernel u end) (sym same-next) ∙ h in
-            rw (l, r, run-again .0, o)
+            let o : sameKernel (nextOf k bytes) end ≡ false = ap (λ (u : Kernel). sameKernel u end) (sym e) ∙ h in
+            rw (l, r, n, o)
 
-        pub again-note : length (k .threads) ≡ 32 → sameKernel (s .kernel) end ≡ true → sameRow (noteIn k bytes (s .kernel) (s .answer .value)) note ≡ yieldsAgain k bytes end note
-        unfolding yieldsAgain
-        again-note all h =
-            let (n, a) = run-again in
-            let o : sameKernel (scheduled (effect k (callOf bytes))) end ≡ true = ap (λ (u : Kernel). sameKernel u end) (sym same-next) ∙ h in
-            let same : noteIn k bytes (s .kernel) (s .answer .value) ≡ noteOf k bytes (scheduled (effect k (callOf bytes))) =
-            ap (λ (x : Stepped). noteIn k bytes (x .kernel) (x .answer .value)) a ∙ note-in k bytes all n in
-            ap (λ (x : List ℕ). sameRow x note) same ∙ rw (l, r, n, o, and-true)
+        pub again-note : sameKernel next end ≡ true → sameRow (noteFor k bytes) note ≡ yieldsAgain k bytes end note
+        unfolding yieldsAgain noteFor
+        again-note h =
+            let o : sameKernel (nextOf k bytes) end ≡ true = ap (λ (u : Kernel). sameKernel u end) (sym e) ∙ h in
+            rw (l, r, n, o, and-true)
 
 -- ---- the frame
 none-whole : isWhole [] ≡ false

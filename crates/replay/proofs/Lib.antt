@@ -6,4 +6,6 @@ pub mod LeadsBack
 pub mod SamplesHold
 pub mod Recording
 pub mod Parts
+pub mod Numbers
+pub mod Compared
 pub mod Again

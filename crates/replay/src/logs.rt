@@ -8,8 +8,10 @@ ghost use Rattle.replay.specs.Logs.{logged, recorded, logAfter, calledWi
 use crate::step;
 use crate::step::Answer;
 use calls::call;
+use calls::named;
 use kernel::records::Kernel;
 use noting::note;
+use noting::note::MOST;
 
 // The answer, the next state (an undo: the earlier one), and how much of the log is used then.
 pub struct Logged {
@@ -33,18 +35,27 @@ pub(crate) fn refused(number: u8, runner: u8, k: Kernel, used: usize) -> Logged
     }
 }
 
-// The call on a state that keeps its rules: a run that starts from a tested state needs no further test.
+// The call on a state that keeps its rules: a run that starts from a tested state needs no further test. The sections are written from
+// here, and not from a function over both states, which would copy them.
 pub fn recorded(k: Kernel, bytes: [u8; 16], log: &mut [u8], used: usize) -> Logged
     ensures { λ r. ⌜ (r ≡ recorded k bytes (now (log .entry)) used) × (now (log .exit) ≡ logAfter k bytes (now (log .entry)) used) ⌝ }
 {
     let c = call::call_of(bytes);
-    let number = refusing::number_of(k, c);
+    let n = named::named_by(k, c);
+    let number = refusing::number_of(k.unscheduled, k.critical, k.runner, n, c);
     if number != 0 {
         return refused(number, k.runner, k, used);
     }
-    let value = acting::value_of(k, c);
+    let value = n.found;
     let next = step::next_state(k, c);
-    let end = note::write_note(log, used, k, bytes, next, value);
+    let mut buffer = [0u8; MOST];
+    let first = note::put_start(&mut buffer, bytes, c, k, next);
+    let second = note::put_thread_part(&mut buffer, first, c, k, next, value);
+    let third = note::put_semaphore_part(&mut buffer, second, c, k, next, value);
+    let fourth = note::put_event_part(&mut buffer, third, c, k, next);
+    let fifth = note::put_message_part(&mut buffer, fourth, c, k, next, value);
+    let size = note::put_end(&mut buffer, fifth);
+    let end = coding::logs::write(log, used, &buffer[..size]);
     if end == used {
         return refused(13, k.runner, k, used);
     }

@@ -3,6 +3,7 @@ ghost use mathlib.Core.Path.{_≡_};
 ghost use Rattle.replay.specs.Steps.{nextState, step, called};
 use calls::call;
 use calls::call::Call;
+use calls::named;
 use kernel::records::Kernel;
 use kernel::runner;
 use seek::records;
@@ -37,7 +38,8 @@ pub(crate) fn next_state(k: Kernel, c: Call) -> Kernel
 pub fn step(k: Kernel, c: Call) -> Stepped
     ensures { λ r. ⌜ r ≡ step k c ⌝ }
 {
-    let number = refusing::number_of(k, c);
+    let n = named::named_by(k, c);
+    let number = refusing::number_of(k.unscheduled, k.critical, k.runner, n, c);
     if number != 0 {
         return Stepped {
             answer: Answer {
@@ -48,7 +50,7 @@ pub fn step(k: Kernel, c: Call) -> Stepped
             kernel: k,
         };
     }
-    let value = acting::value_of(k, c);
+    let value = n.found;
     let next = next_state(k, c);
     Stepped {
         answer: Answer {

@@ -23,17 +23,17 @@ returns-3 c = rw (c .before .match .keys3) (sym (or-false _))
 
 returns-4 : tie.Need-returns-4
 unfolding stopsCallerOf
-returns-4 c = rw (c .match .keys4) (sym (or-false _))
+returns-4 c = rw (c .before .match .keys4) (sym (or-false _))
 
 returns-5 : tie.Need-returns-5
 unfolding stopsCallerOf
 returns-5 c =
     let a = c .before .before .before .args in
-    run (λ m. true ≡ stopsCallerOf (a .n) (a .runner) (a .next) (asKind (a .c) m)) 2 6 (refl, (refl, tt)) (a .c .kind) (c .before .if1 .left) (c .if2 .taken)
+    run (λ m. true ≡ stopsCallerOf (a .n) (a .runner) (asKind (a .c) m)) 2 6 (refl, (refl, tt)) (a .c .kind) (c .before .if1 .left) (c .if2 .taken)
 
 -- a kind that never stops its caller
 none : (c : tie.At-match-rest) → (6 ≤ c .before .args .c .kind → c .before .args .c .kind < 8 → ⊥)
-    → false ≡ stopsCallerOf (c .before .args .n) (c .before .args .runner) (c .before .args .next) (c .before .args .c)
+    → false ≡ stopsCallerOf (c .before .args .n) (c .before .args .runner) (c .before .args .c)
 unfolding stopsCallerOf
 none c h =
     let o = off (c .before .args .c .kind) 6 8 h in

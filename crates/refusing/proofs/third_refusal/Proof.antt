@@ -5,8 +5,8 @@ use mathlib.Core.Logic.{⊎-elim}
 use lib.Dec.{eqb}
 use borrow.Author.Needs.{needs}
 use borrow.Author.Tests.{ne-eqb}
-use Rattle.calls.specs.Refusals.{is, hasWaiters, popsNothing, noneFree}
-use Rattle.calls.specs.Named.{blocksOf, thirdNumber}
+use Rattle.calls.specs.Refusals.{is}
+use Rattle.calls.specs.Named.{hasWaitersOf, blocksOf, noneFreeOf, thirdNumber}
 use Rattle.refusing.proofs.third_refusal.Statement.{statement}
 use Rattle.refusing.proofs.third_refusal.Tie as tie
 
@@ -17,7 +17,7 @@ returns : tie.Need-returns
 unfolding thirdNumber
 returns c = rw (sym (c .before .has-waiters .ensures) ∙ c .if1 .taken)
 
-none-wait : (c : tie.Else1) → hasWaiters (c .before .before .args .k) (c .before .before .args .c) ≡ false
+none-wait : (c : tie.Else1) → hasWaitersOf (c .before .before .args .n) (c .before .before .args .c) ≡ false
 none-wait c = sym (c .before .has-waiters .ensures) ∙ c .if1 .left
 
 returns-2 : tie.Need-returns-2
@@ -31,7 +31,7 @@ periodic : (c : tie.Joined2) → is (c .before .before .before .before .args .c)
 periodic c = ⊎-elim (λ w. rw (ne-eqb _ 0 (w .2 .left), and-false)) (λ w. rw (ne-eqb _ 17 (w .left))) (c .if2 .came)
 
 returns-3 : tie.Need-returns-3
-unfolding thirdNumber popsNothing
+unfolding thirdNumber
 returns-3 c =
     let j = c .before .before in
     rw (none-wait (j .before .before), periodic j, sym (c .before .pops-nothing .ensures) ∙ c .if4 .taken)
@@ -40,12 +40,10 @@ blocks-in-region-requires : tie.Need-blocks-in-region-requires
 blocks-in-region-requires c κs = search needs
 
 -- only whether it blocks and what it takes is left to be judged
-in-order : (c : tie.Else4)
-    → thirdNumber (c .before .before .before .before .before .before .args .k) (c .before .before .before .before .before .before .args .n)
-    (c .before .before .before .before .before .before .args .c)
-    ≡ cond (blocksOf (c .before .before .before .before .before .before .args .k) (c .before .before .before .before .before .before .args .n) (c .before .before .before .before .before .before .args .c)) 6
-    (cond (noneFree (c .before .before .before .before .before .before .args .k) (c .before .before .before .before .before .before .args .c)) 7 0)
-unfolding thirdNumber popsNothing
+in-order : (c : tie.Else4) → let a = c .before .before .before .before .before .before .args in
+    thirdNumber (a .unscheduled) (a .critical) (a .runner) (a .n) (a .c)
+    ≡ cond (blocksOf (a .unscheduled) (a .critical) (a .runner) (a .n) (a .c)) 6 (cond (noneFreeOf (a .unscheduled) (a .critical) (a .n) (a .c)) 7 0)
+unfolding thirdNumber
 in-order c =
     let j = c .before .before in
     rw (none-wait (j .before .before), periodic j, sym (c .before .pops-nothing .ensures) ∙ c .if4 .left)

@@ -37,15 +37,17 @@ put-events-requires : tie.Need-put-events-requires
 put-events-requires c κs = search needs
 
 -- what the scratch array holds is the part
-written : (c : tie.After-put-events) → let a = c .before .before .before .before .before .before .before .before .args in (c .put-events .result ≤ length (c .put-events .last .0)) × (take (c .put-events .result) (c .put-events .last .0) ≡ eventPart (a .c) (a .bits) (a .after) (a .old) (a .new))
+written : (c : tie.After-put-events) → let a = c .before .before .before .before .before .before .before .before .before .before .args in
+    (c .put-events .result ≤ length (c .put-events .last .0)) × (take (c .put-events .result) (c .put-events .last .0) ≡ eventPart (a .c) (a .k .bits) (a .k2 .bits) (a .k .events) (a .k2 .events))
 written c =
-    let a = c .before .before .before .before .before .before .before .before .args in
-    let e : pen (c .put-events .last .0) (c .put-events .result) ≡ puts (pen (replicate 89 0) 0) (eventPart (a .c) (a .bits) (a .after) (a .old) (a .new)) =
+    let a = c .before .before .before .before .before .before .before .before .before .before .args in
+    let s = c .before .before .before .before .before .before .before .before .event-span in
+    let e : pen (c .put-events .last .0) (c .put-events .result) ≡ puts (pen (replicate 89 0) 0) (eventPart (a .c) (a .k .bits) (a .k2 .bits) (a .k .events) (a .k2 .events)) =
     rw puts-append
     (c .put-events .ensures
-    ∙ (ap (λ q. puts q (eventEntries (a .old) (a .new) (c .before .before .before .before .before .before .event-span .result .first) (c .before .before .before .before .before .before .event-span .result .count))) (c .before .before .before .put-bits .ensures)
-    ∙ ap (λ x. puts (puts (pen (replicate 89 0) 0) (cond (eqb (a .bits) (a .after)) [] (8 ∷ []))) (eventEntries (a .old) (a .new) (x .first) (x .count))) (c .before .before .before .before .before .before .event-span .ensures))) in
-    let w = composed (replicate 89 0) _ _ _ e (rw length-replicate (omega (arith, events-short (a .c) (a .bits) (a .after) (a .old) (a .new)))) in
+    ∙ (ap (λ q. puts q (eventEntries (a .k .events) (a .k2 .events) (s .result .first) (s .result .count))) (c .before .before .before .put-bits .ensures)
+    ∙ ap (λ x. puts (puts (pen (replicate 89 0) 0) (cond (eqb (a .k .bits) (a .k2 .bits)) [] (8 ∷ []))) (eventEntries (a .k .events) (a .k2 .events) (x .first) (x .count))) (s .ensures))) in
+    let w = composed (replicate 89 0) _ _ _ e (rw length-replicate (omega (arith, events-short (a .c) (a .k .bits) (a .k2 .bits) (a .k .events) (a .k2 .events)))) in
     (w .0, w .1)
 
 array-share-prefix-scratch : tie.Need-array-share-prefix-scratch
