@@ -40,7 +40,7 @@ returns-2 c =
     let t = c .before .before in
     let a = t .before .before .args in
     let none : eqb (numberOf (a .k) (a .c)) 0 ≡ true = eq-eqb _ 0 (sym (number t) ∙ c .before .if1 .left) in
-    rw (none, value-by (a .k) (a .c) (a .c) _ (t .before .named-by .ensures) refl, c .next-state .ensures)
+    rw (none, ← value-by (a .k) (a .c) (a .c) _ (t .before .named-by .ensures) refl, c .next-state .ensures)
 
 pub step-spec : {M : Type 1} → statement M
 step-spec =
