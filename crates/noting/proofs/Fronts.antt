@@ -16,7 +16,7 @@ use Rattle.notes.specs.Predicted.{predictedScheduler}
 use Rattle.notes.specs.Touched.{touchedThread, touchedSemaphore, touchedEvent, touchedMessage}
 use Rattle.notes.specs.Sections.{threadEntry, semaphoreEntry, eventEntry, messageEntry, schedulerSection}
 use Rattle.notes.specs.Notes.{section}
-use Rattle.notes.specs.Spans.{frontIn, noteIn}
+use Rattle.notes.specs.Spans.{threadSpan, waiterOf, frontIn, noteIn}
 use Rattle.writing.specs.Tables.{levelsNoted}
 use Rattle.noting.specs.Parts.{levelsOf, threadPart, semaphorePart, eventPart, messagePart}
 use Rattle.noting.proofs.Sizes.{levels-short, threads-short, semaphores-short, events-short, messages-short}
@@ -25,7 +25,7 @@ abbrev parts : Kernel → List ℕ → Kernel → ℕ → Call → List ℕ
 parts k bytes k′ value c =
     bytes
     ++ (section (levelsNoted c (levelsOf k) (levelsOf k′))
-    ++ (section (threadPart c (k .runner) (threadsOf k) (k′ .threads) value)
+    ++ (section (threadPart c (k .runner) (waiterOf k c) (threadsOf k) (k′ .threads) value)
     ++ (section (semaphorePart c (k .semaphores) (k′ .semaphores) value)
     ++ (section (eventPart c (k .bits) (k′ .bits) (k .events) (k′ .events))
     ++ section (messagePart c (k′ .runner) (postsOf k) (k′ .messages) value)))))
@@ -44,15 +44,16 @@ puts-six : (p : Pen) (a b c d e f : List ℕ)
     → puts p (a ++ (b ++ (c ++ (d ++ (e ++ f))))) ≡ puts (puts (puts (puts (puts (puts p a) b) c) d) e) f
 puts-six p a b c d e f = simp puts-append
 
--- the parts, one behind the other
-pub front-puts : (p : Pen) (k : Kernel) (bytes : List ℕ) (k′ : Kernel) (value : ℕ) → let c = callOf bytes in
-    puts (puts (puts (puts (puts (puts p bytes) (section (levelsNoted c (levelsOf k) (levelsOf k′))))
-    (section (threadPart c (k .runner) (threadsOf k) (k′ .threads) value)))
+-- the parts, one behind the other; of whom a call needs no waiter, any other will do
+pub front-puts : (p : Pen) (k : Kernel) (bytes : List ℕ) (k′ : Kernel) (value waiter : ℕ) → let c = callOf bytes in
+    threadSpan c (k .runner) value waiter ≡ threadSpan c (k .runner) value (waiterOf k c)
+    → puts (puts (puts (puts (puts (puts p bytes) (section (levelsNoted c (levelsOf k) (levelsOf k′))))
+    (section (threadPart c (k .runner) waiter (threadsOf k) (k′ .threads) value)))
     (section (semaphorePart c (k .semaphores) (k′ .semaphores) value)))
     (section (eventPart c (k .bits) (k′ .bits) (k .events) (k′ .events))))
     (section (messagePart c (k′ .runner) (postsOf k) (k′ .messages) value))
     ≡ puts p (frontIn k bytes k′ value)
-front-puts p k bytes k′ value = sym (ap (puts p) (front-parts k bytes k′ value) ∙ puts-six p bytes _ _ _ _ _)
+front-puts p k bytes k′ value waiter e = rw e (sym (ap (puts p) (front-parts k bytes k′ value) ∙ puts-six p bytes _ _ _ _ _))
 
 pub front-short : (k : Kernel) (bytes : List ℕ) (k′ : Kernel) (value : ℕ) → length bytes ≡ 16 → length (frontIn k bytes k′ value) ≤ 1927
 front-short k bytes k′ value h =
@@ -61,7 +62,7 @@ front-short k bytes k′ value h =
     (omega (
       arith,
       levels-short c (levelsOf k) (levelsOf k′),
-      threads-short c (k .runner) (threadsOf k) (k′ .threads) value,
+      threads-short c (k .runner) (waiterOf k c) (threadsOf k) (k′ .threads) value,
       semaphores-short c (k .semaphores) (k′ .semaphores) value,
       events-short c (k .bits) (k′ .bits) (k .events) (k′ .events),
       messages-short c (k′ .runner) (postsOf k) (k′ .messages) value,

@@ -31,7 +31,7 @@ use Rattle.notes.proofs.EntriesShort.{entries-short}
 use Rattle.writing.specs.declared.scheduler_notes.Levels.{Levels}
 use Rattle.writing.specs.Tables.{levelsNoted, semaphoreEntries, eventEntries, messageEntries}
 use Rattle.writing.specs.ThreadEntries.{isChanged, entryOf}
-use Rattle.noting.specs.Parts.{spanOfThreads, threadPart, semaphorePart, eventPart, messagePart}
+use Rattle.noting.specs.Parts.{threadPart, semaphorePart, eventPart, messagePart}
 
 -- what was written to the front of an array that is long enough: that it stands there, and how far it goes
 pub composed : (l m part : List ℕ) (r : ℕ) → pen m r ≡ puts (pen l 0) part → length part ≤ length l → (r ≤ length m) × (take r m ≡ part) × (r ≡ length part)
@@ -135,11 +135,11 @@ module _ (c : Call) where
       go : (os ps : List ℕ) → length (unlessPredicted schedulerWidths os ps) ≤ 4
       go os ps = cases (eqb (flagsOf os ps) 0) (λ e. rw e (omega arith)) (λ e. rw e (omega (arith, body-short schedulerWidths os ps)))
 
-  pub threads-short : (runner : ℕ) (old : Threads) (new : List Thread) (value : ℕ) → length (threadPart c runner old new value) ≤ 480
+  pub threads-short : (runner waiter : ℕ) (old : Threads) (new : List Thread) (value : ℕ) → length (threadPart c runner waiter old new value) ≤ 480
   unfolding sum
-  threads-short runner old new value =
-      let s = spanOfThreads c runner old value in
-      let b : s .first + s .count ≤ 32 = thread-inside c runner value _ in
+  threads-short runner waiter old new value =
+      let s = threadSpan c runner value waiter in
+      let b : s .first + s .count ≤ 32 = thread-inside c runner value waiter in
       let h = entries-most (isChanged c runner old new) (entryOf c old new) 15 (s .first) (s .count) (λ j. body-three 15 threadWidths _ _ (omega arith)) in
       omega arith
 

@@ -1,27 +1,22 @@
 -- Only a post can touch the first that waits for a semaphore: for other kinds it needn't be known.
 use Prim.Native.Nat.{ℕ}
-use mathlib.Core.Path.{_≡_, refl}
-use mathlib.Core.Bool.{Bool, true, false, cond}
+use mathlib.Core.Path.{_≡_, refl, ap, _∙_}
+use mathlib.Core.Bool.{Bool, true, false, cond, _||_}
 use mathlib.Core.List.{[], _∷_}
-use borrow.Author.Tests.{ne-eqb}
+use Rattle.kernel.specs.declared.records.Kernel.{Kernel}
 use Rattle.calls.specs.declared.call.Call.{Call}
-use Rattle.calls.specs.Refusals.{isOneOf}
-use Rattle.notes.specs.Spans.{Span, alone, threadSpan}
+use Rattle.calls.specs.declared.named.Named.{Named}
+use Rattle.calls.specs.Refusals.{is, isOneOf}
+use Rattle.calls.specs.Named.{waiterBy, namedBy}
+use Rattle.notes.specs.Spans.{Span, alone, threadSpan, waiterOf}
 
-pub post : (c : Call) → c .kind ≡ 19 → isOneOf c (19 ∷ 28 ∷ []) ≡ true
-post c e = rw e
+looked-for : (a b : Bool) (waiter : ℕ) (s : Span) → cond b (alone 32 (cond (a || b) waiter 255)) s ≡ cond b (alone 32 waiter) s
+looked-for true true waiter s = refl
+looked-for true false waiter s = refl
+looked-for false true waiter s = refl
+looked-for false false waiter s = refl
 
-pub interrupt-post : (c : Call) → c .kind ≡ 28 → isOneOf c (19 ∷ 28 ∷ []) ≡ true
-interrupt-post c e = rw e
-
-pub no-post : (c : Call) → (c .kind ≡ 19 → ⊥) → (c .kind ≡ 28 → ⊥) → isOneOf c (19 ∷ 28 ∷ []) ≡ false
-no-post c f g = rw (ne-eqb _ _ f, ne-eqb _ _ g)
-
-looked-for : (b : Bool) (waiter other : ℕ) (s : Span) → cond b (alone 32 (cond b waiter other)) s ≡ cond b (alone 32 waiter) s
-looked-for true waiter other s = refl
-looked-for false waiter other s = refl
-
-pub other-waiter : (c : Call) (runner value waiter other : ℕ)
-    → threadSpan c runner value (cond (isOneOf c (19 ∷ 28 ∷ [])) waiter other) ≡ threadSpan c runner value waiter
-unfolding threadSpan
-other-waiter c runner value waiter other = rw (looked-for (isOneOf c (19 ∷ 28 ∷ [])) waiter other)
+-- what a call finds is enough for its span
+pub waiter-found : (k : Kernel) (c : Call) (n : Named) (runner value : ℕ) → n ≡ namedBy k c → threadSpan c runner value (n .waiter) ≡ threadSpan c runner value (waiterOf k c)
+unfolding threadSpan namedBy waiterBy
+waiter-found k c n runner value e = rw (ap (λ m. m .waiter) e, looked-for (is c 15) (isOneOf c (19 ∷ 28 ∷ [])) (waiterOf k c))

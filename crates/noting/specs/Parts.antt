@@ -1,5 +1,5 @@
 -- The parts of a note, over the parts of the two states that they speak of.
-use Prim.Native.Nat.{ℕ, _+_}
+use Prim.Native.Nat.{ℕ}
 use mathlib.Core.Bool.{cond}
 use mathlib.Core.List.{List, [], _∷_, _++_}
 use lib.Dec.{eqb}
@@ -10,7 +10,6 @@ use Rattle.kernel.specs.declared.records.Message.{Message}
 use Rattle.kernel.specs.declared.records.Kernel.{Kernel}
 use Rattle.kernel.specs.declared.moves.Threads.{Threads}
 use Rattle.kernel.specs.declared.moves.Posts.{Posts}
-use Rattle.seek.specs.Lines.{firstOfLine}
 use Rattle.calls.specs.declared.call.Call.{Call}
 use Rattle.notes.specs.Sections.{entriesFrom}
 use Rattle.notes.specs.Spans.{Span, threadSpan, semaphoreSpan, eventSpan, messageSpan}
@@ -21,12 +20,10 @@ use Rattle.writing.specs.ThreadEntries.{isChanged, entryOf}
 abbrev pub levelsOf : Kernel → Levels
 levelsOf k = record { unscheduled = k .unscheduled; critical = k .critical; runner = k .runner }
 
-abbrev pub spanOfThreads : Call → ℕ → Threads → ℕ → Span
-spanOfThreads c runner old value = threadSpan c runner value (firstOfLine (old .records) (old .places) (256 + c .a))
-
-abbrev pub threadPart : Call → ℕ → Threads → List Thread → ℕ → List ℕ
-threadPart c runner old new value =
-    let s = spanOfThreads c runner old value in
+-- `runner` is who ran before the call, `waiter` the first that waits for semaphore a
+abbrev pub threadPart : Call → ℕ → ℕ → Threads → List Thread → ℕ → List ℕ
+threadPart c runner waiter old new value =
+    let s = threadSpan c runner value waiter in
     entriesFrom (isChanged c runner old new) (entryOf c old new) (s .first) (s .count)
 
 abbrev pub semaphorePart : Call → List Semaphore → List Semaphore → ℕ → List ℕ

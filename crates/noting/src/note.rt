@@ -1,14 +1,10 @@
 // The note of a call: the call record, five sections each behind its length, and the whole length.
 ghost use mathlib.Core.Path.{_≡_};
 ghost use Prim.Native.Nat.{_+_, min};
-ghost use mathlib.Core.Bool.{cond};
-ghost use mathlib.Core.List.{[], _∷_};
 ghost use Rattle.coding.specs.Bytes.{le};
 ghost use Rattle.coding.specs.Pens.{pen, puts};
 ghost use Rattle.kernel.specs.Standing.{threadsOf, postsOf};
-ghost use Rattle.calls.specs.Refusals.{isOneOf};
 ghost use Rattle.notes.specs.Notes.{section};
-ghost use Rattle.notes.specs.Spans.{waiterOf};
 ghost use Rattle.writing.specs.Tables.{levelsNoted};
 ghost use Rattle.noting.specs.Parts.{levelsOf, threadPart, semaphorePart, eventPart, messagePart};
 use calls::call::Call;
@@ -17,7 +13,6 @@ use coding::pens;
 use kernel::moves::Posts;
 use kernel::moves::Threads;
 use kernel::records::Kernel;
-use seek::lines;
 use writing::message_notes;
 use writing::object_notes;
 use writing::scheduler_notes;
@@ -71,19 +66,8 @@ pub fn put_start(log: &mut [u8], bytes: [u8; 16], c: Call, k: Kernel, k2: Kernel
     put_section(log, first, &scratch[..n])
 }
 
-// The first that waits for semaphore a. Only a post can touch it, so for other kinds nobody is looked for.
-fn waiter_of(c: Call, k: Kernel) -> u8
-    ensures { λ r. ⌜ r ≡ cond (isOneOf c (19 ∷ 28 ∷ [])) (waiterOf k c) 255 ⌝ }
-{
-    if c.kind == 19 || c.kind == 28 {
-        let records = k.threads;
-        let places = k.places;
-        return lines::first_of_line(records, places, 256 + (c.a as u16));
-    }
-    255
-}
-
-// Where a call can touch no id of a table, the table isn't taken out of the states: that would copy it.
+// `waiter` is the first that waits for semaphore a. Where a call can touch no id of a table, the table isn't taken out of the states:
+// that would copy it.
 pub fn put_thread_part(
     log: &mut [u8],
     at: usize,
@@ -91,10 +75,11 @@ pub fn put_thread_part(
     k: Kernel,
     k2: Kernel,
     value: u8,
+    waiter: u8,
 ) -> usize
-    ensures { λ r. ⌜ pen (now (log .exit)) r ≡ puts (pen (now (log .entry)) at) (section (threadPart c (k .runner) (threadsOf k) (k2 .threads) value)) ⌝ }
+    ensures { λ r. ⌜ pen (now (log .exit)) r ≡ puts (pen (now (log .entry)) at) (section (threadPart c (k .runner) waiter (threadsOf k) (k2 .threads) value)) ⌝ }
 {
-    let s = spans::thread_span(c, k.runner, value, waiter_of(c, k));
+    let s = spans::thread_span(c, k.runner, value, waiter);
     if s.count == 0 {
         return pens::put_number(log, at, 2, 0);
     }

@@ -1,9 +1,8 @@
 // Document 01's printed replay: records from standard input to its end, a line each, then the uptime.
-ghost use Prim.Native.Nat.{_≤_};
-ghost use lib.ListN.{length};
-use calls::call;
+use coding::pens;
 use kernel::records::Kernel;
-use replay::step;
+use reading::last;
+use replay::logs;
 use replay::step::Answer;
 
 // Where a run stands: its state, the records seen so far, and the end of the text written for the last ones.
@@ -15,69 +14,35 @@ struct Run {
 
 // ---- lines of decimal numbers in a lent buffer; a full buffer drops what does not fit
 
-// One byte at `at`; the answer is the next place, at most the end.
-fn put_byte(out: &mut [u8], at: usize, b: u8) -> usize
-    ensures { λ r. ⌜ r ≤ length (now (out .entry)) ⌝ }
-{
-    if at < out.len() {
-        out[at] = b;
-        return at + 1;
-    }
-    out.len()
-}
-
 // The decimal digits of n, and then the byte that ends them.
-fn put_number(out: &mut [u8], at: usize, n: u64, end: u8) -> usize
-    ensures { λ r. ⌜ r ≤ length (now (out .entry)) ⌝ }
-{
+fn put_number(out: &mut [u8], at: usize, n: u64, end: u8) -> usize {
     let mut digits = [0u8; 20];
     let count = io::decimal(n, &mut digits);
-    let mut p = at;
-    let mut i: usize = 0;
-    while i < 20 {
-        if count <= i {
-            return put_byte(out, p, end);
-        }
-        p = put_byte(out, p, digits[i]);
-        i += 1;
-    }
-    put_byte(out, p, end)
+    let p = pens::put_all(out, at, &digits[..count]);
+    pens::put_byte(out, p, end)
 }
 
 // The line of an answer: serial, number, value, runner.
-fn put_line(out: &mut [u8], at: usize, serial: u64, a: Answer) -> usize
-    ensures { λ r. ⌜ r ≤ length (now (out .entry)) ⌝ }
-{
+fn put_line(out: &mut [u8], at: usize, serial: u64, a: Answer) -> usize {
     let p = put_number(out, at, serial, b' ');
     let q = put_number(out, p, a.number as u64, b' ');
     let r = put_number(out, q, a.value as u64, b' ');
     put_number(out, r, a.runner as u64, b'\n')
 }
 
-// ---- the replay
-
-// The sixteen bytes from `at` on; past the end, zeros.
-fn record_at(s: &[u8], at: usize) -> [u8; 16] {
-    let mut r = [0u8; 16];
-    let mut i: usize = 0;
-    while i < 16 {
-        if s.len() <= at {
-            return r;
-        }
-        if s.len() - at <= i {
-            return r;
-        }
-        r[i] = s[at + i];
-        i += 1;
+// The text in front of `end`.
+fn print(out: &[u8], end: usize) {
+    if end <= out.len() {
+        io::write_all(1, &out[..end]);
     }
-    r
 }
 
-// The whole records of s, replayed from k; a shorter tail is dropped. The fresh state keeps its rules, and so does every
-// state after it, so that no call tests them again.
-fn replayed(k: Kernel, serial: u64, s: &[u8], out: &mut [u8]) -> Run
-    ensures { λ r. ⌜ r .end ≤ length (now (out .entry)) ⌝ }
-{
+// ---- the replay
+
+// The whole records of s, replayed from k, each with an empty log; a shorter tail is dropped. The fresh state keeps its rules, and so
+// does every state after it, so that no call tests them again.
+fn replayed(k: Kernel, serial: u64, s: &[u8], out: &mut [u8]) -> Run {
+    let mut log = [0u8; 4096];
     let mut run = Run {
         kernel: k,
         serial: serial,
@@ -85,11 +50,10 @@ fn replayed(k: Kernel, serial: u64, s: &[u8], out: &mut [u8]) -> Run
     };
     let mut at: usize = 0;
     while 16 <= s.len() - at {
-        let c = call::call_of(record_at(s, at));
-        let next = step::step(run.kernel, c);
+        let l = logs::recorded(run.kernel, last::record_in(&s[at..]), &mut log, 0);
         let n = std::num::wrapping_add_u64(run.serial, 1);
-        let end = put_line(out, run.end, n, next.answer);
-        let state = next.kernel;
+        let end = put_line(out, run.end, n, l.answer);
+        let state = l.kernel;
         run = Run {
             kernel: state,
             serial: n,
@@ -121,7 +85,7 @@ fn main() {
         let state = run.kernel;
         run = replayed(state, run.serial, &input[..n], &mut output);
         let end = run.end;
-        io::write_all(1, &output[..end]);
+        print(&output, end);
         if n < 4096 {
             return finished(run.kernel.uptime);
         }

@@ -50,7 +50,7 @@ pub fn recorded(k: Kernel, bytes: [u8; 16], log: &mut [u8], used: usize) -> Logg
     let next = step::next_state(k, c);
     let mut buffer = [0u8; MOST];
     let first = note::put_start(&mut buffer, bytes, c, k, next);
-    let second = note::put_thread_part(&mut buffer, first, c, k, next, value);
+    let second = note::put_thread_part(&mut buffer, first, c, k, next, value, n.waiter);
     let third = note::put_semaphore_part(&mut buffer, second, c, k, next, value);
     let fourth = note::put_event_part(&mut buffer, third, c, k, next);
     let fifth = note::put_message_part(&mut buffer, fourth, c, k, next, value);

@@ -35,7 +35,7 @@ pub(crate) fn next_state(k: Kernel, c: Call) -> Kernel
 }
 
 // The call on a state that keeps its rules: a run that starts from a tested state needs no further test.
-pub fn step(k: Kernel, c: Call) -> Stepped
+fn step(k: Kernel, c: Call) -> Stepped
     ensures { λ r. ⌜ r ≡ step k c ⌝ }
 {
     let n = named::named_by(k, c);

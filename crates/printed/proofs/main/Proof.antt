@@ -1,6 +1,5 @@
-use mathlib.Core.Path.{_≡_, sym}
+use mathlib.Core.Path.{_≡_}
 use lib.ListN.{length}
-use lib.Seq.{length-take-le}
 use borrow.Author.Needs.{needs}
 use Rattle.printed.proofs.main.Statement.{statement}
 use Rattle.printed.proofs.main.Tie as tie
@@ -38,14 +37,11 @@ slice-aggregate-replayed-2 c = search needs
 replayed-requires : tie.Need-replayed-requires Inv-loop μ-loop
 replayed-requires c κs = search needs
 
-array-share-prefix-output : tie.Need-array-share-prefix-output Inv-loop μ-loop
-array-share-prefix-output c = search needs
+slice-aggregate-print : tie.Need-slice-aggregate-print Inv-loop μ-loop
+slice-aggregate-print c = search needs
 
-slice-aggregate-write-all : tie.Need-slice-aggregate-write-all Inv-loop μ-loop
-slice-aggregate-write-all c = sym (length-take-le _ _ (search needs))
-
-write-all-requires : tie.Need-write-all-requires Inv-loop μ-loop
-write-all-requires c κs = search needs
+print-requires : tie.Need-print-requires Inv-loop μ-loop
+print-requires c κs = search needs
 
 finished-requires : tie.Need-finished-requires Inv-loop μ-loop
 finished-requires c κs = search needs
@@ -83,9 +79,8 @@ main-spec =
     slice-aggregate-replayed
     slice-aggregate-replayed-2
     replayed-requires
-    array-share-prefix-output
-    slice-aggregate-write-all
-    write-all-requires
+    slice-aggregate-print
+    print-requires
     finished-requires
     returns
     sub-turns

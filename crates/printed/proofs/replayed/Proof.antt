@@ -7,10 +7,10 @@ use Rattle.printed.proofs.replayed.Statement.{statement}
 use Rattle.printed.proofs.replayed.Tie as tie
 
 abbrev Inv-loop : tie.InvT-loop
-Inv-loop serial s out₀ run₀ at₀ out run at = (at ≤ length s) × (run .end ≤ length out₀) × (length out ≡ length out₀)
+Inv-loop serial s out₀ log₀ run₀ at₀ out log run at = (at ≤ length s) × (length out ≡ length out₀) × (length log ≡ 4096)
 
 abbrev μ-loop : tie.MeasureT-loop
-μ-loop serial s out₀ run₀ at₀ out run at = length s - at
+μ-loop serial s out₀ log₀ run₀ at₀ out log run at = length s - at
 
 loop-holds : tie.Need-loop-holds Inv-loop μ-loop
 loop-holds c = search needs
@@ -18,14 +18,23 @@ loop-holds c = search needs
 sub-loop : tie.Need-sub-loop Inv-loop μ-loop
 sub-loop c = search needs
 
-record-at-requires : tie.Need-record-at-requires Inv-loop μ-loop
-record-at-requires c κs = search needs
+sub-record-in : tie.Need-sub-record-in Inv-loop μ-loop
+sub-record-in c = search needs
 
-call-of-requires : tie.Need-call-of-requires Inv-loop μ-loop
-call-of-requires c κs = search needs
+part-record-in-start : tie.Need-part-record-in-start Inv-loop μ-loop
+part-record-in-start c = search needs
 
-step-requires : tie.Need-step-requires Inv-loop μ-loop
-step-requires c κs = search needs
+part-record-in-end : tie.Need-part-record-in-end Inv-loop μ-loop
+part-record-in-end c = search needs
+
+record-in-requires : tie.Need-record-in-requires Inv-loop μ-loop
+record-in-requires c κs = search needs
+
+slice-aggregate-recorded : tie.Need-slice-aggregate-recorded Inv-loop μ-loop
+slice-aggregate-recorded c = search needs
+
+recorded-requires : tie.Need-recorded-requires Inv-loop μ-loop
+recorded-requires c κs = search needs
 
 wrapping-add-u64-requires : tie.Need-wrapping-add-u64-requires Inv-loop μ-loop
 wrapping-add-u64-requires c κs = search needs
@@ -34,7 +43,7 @@ put-line-requires : tie.Need-put-line-requires Inv-loop μ-loop
 put-line-requires c κs = search needs
 
 add-at : tie.Need-add-at Inv-loop μ-loop
-add-at c = omega (arith, c .before .before .before .before .before .before .before .before .before .before .before .before .before .good)
+add-at c = omega (arith, c .before .before .before .before .before .before .before .before .before .before .before .before .before .before .before .good)
 
 loop-less : tie.Need-loop-less Inv-loop μ-loop
 loop-less c = search needs
@@ -56,9 +65,12 @@ replayed-spec =
     μ-loop
     loop-holds
     sub-loop
-    record-at-requires
-    call-of-requires
-    step-requires
+    sub-record-in
+    part-record-in-start
+    part-record-in-end
+    record-in-requires
+    slice-aggregate-recorded
+    recorded-requires
     wrapping-add-u64-requires
     put-line-requires
     add-at

@@ -1,12 +1,10 @@
 -- `noting::note::put_thread_part` meets its contract: the part is written to a scratch array that is long enough, and then behind its length.
 use Rattle.kernel.specs.Standing.{threadsOf}
 use Rattle.notes.specs.Sections.{entriesFrom}
-use Rattle.notes.specs.Spans.{waiterOf, threadSpan}
-use Rattle.writing.specs.Meant.{meant}
+use Rattle.notes.specs.Spans.{threadSpan}
 use Rattle.writing.specs.ThreadEntries.{isChanged, entryOf}
-use Rattle.noting.specs.Parts.{spanOfThreads, threadPart}
+use Rattle.noting.specs.Parts.{threadPart}
 use Rattle.noting.proofs.Sizes.{composed, threads-short}
-use Rattle.noting.proofs.Waiters.{other-waiter}
 use Prim.Native.Nat.{_≤_}
 use mathlib.Core.Path.{_≡_, ap, sym, _∙_}
 use native.Mathlib.Omega.{arith}
@@ -18,9 +16,6 @@ use borrow.Author.Needs.{needs}
 use Rattle.noting.proofs.note.put_thread_part.Statement.{statement}
 use Rattle.noting.proofs.note.put_thread_part.Tie as tie
 
-waiter-of-requires : tie.Need-waiter-of-requires
-waiter-of-requires c κs = search needs
-
 thread-span-requires : tie.Need-thread-span-requires
 thread-span-requires c κs = search needs
 
@@ -30,21 +25,12 @@ put-number-requires c κs = search needs
 same-length : tie.Need-same-length
 same-length c = search needs
 
--- the span with the waiter that was looked for is the part's
-spanned : (c : tie.After-thread-span) → let a = c .before .before .before .args in
-    meant (c .thread-span .result) ≡ spanOfThreads (a .c) (a .k .runner) (threadsOf (a .k)) (a .value)
-spanned c =
-    let a = c .before .before .before .args in
-    c .thread-span .ensures
-    ∙ (ap (threadSpan (a .c) (a .k .runner) (a .value)) (c .before .waiter-of .ensures)
-    ∙ other-waiter (a .c) (a .k .runner) (a .value) (waiterOf (a .k) (a .c)) 255)
-
 returns : tie.Need-returns
 unfolding le
 returns c =
     let s = c .before .before .before .before .before .before in
-    let a = s .before .before .before .args in
-    let z : spanOfThreads (a .c) (a .k .runner) (threadsOf (a .k)) (a .value) .count ≡ 0 = sym (ap (λ x. x .count) (spanned s)) ∙ c .before .before .before .before .if1 .taken in
+    let a = s .before .before .args in
+    let z : threadSpan (a .c) (a .k .runner) (a .value) (a .waiter) .count ≡ 0 = sym (ap (λ x. x .count) (s .thread-span .ensures)) ∙ c .before .before .before .before .if1 .taken in
     rw z (c .before .before .put-number .ensures)
 
 slice-aggregate-put-threads : tie.Need-slice-aggregate-put-threads
@@ -54,16 +40,17 @@ put-threads-requires : tie.Need-put-threads-requires
 put-threads-requires c κs = search needs
 
 -- what the scratch array holds is the part
-written : (c : tie.After-put-threads) → let a = c .before .before .before .before .before .before .before .before .before .before .before .args in (c .put-threads .result ≤ length (c .put-threads .last .0)) × (take (c .put-threads .result) (c .put-threads .last .0) ≡ threadPart (a .c) (a .k .runner) (threadsOf (a .k)) (a .k2 .threads) (a .value))
+written : (c : tie.After-put-threads) → let a = c .before .before .before .before .before .before .before .before .before .before .args in
+    (c .put-threads .result ≤ length (c .put-threads .last .0)) × (take (c .put-threads .result) (c .put-threads .last .0) ≡ threadPart (a .c) (a .k .runner) (a .waiter) (threadsOf (a .k)) (a .k2 .threads) (a .value))
 written c =
-    let a = c .before .before .before .before .before .before .before .before .before .before .before .args in
+    let a = c .before .before .before .before .before .before .before .before .before .before .args in
     let old = threadsOf (a .k) in
     let new = a .k2 .threads in
-    let e : pen (c .put-threads .last .0) (c .put-threads .result) ≡ puts (pen (replicate 480 0) 0) (threadPart (a .c) (a .k .runner) old new (a .value)) =
+    let e : pen (c .put-threads .last .0) (c .put-threads .result) ≡ puts (pen (replicate 480 0) 0) (threadPart (a .c) (a .k .runner) (a .waiter) old new (a .value)) =
     c .put-threads .ensures
     ∙ ap (λ x. puts (pen (replicate 480 0) 0) (entriesFrom (isChanged (a .c) (a .k .runner) old new) (entryOf (a .c) old new) (x .first) (x .count)))
-    (spanned (c .before .before .before .before .before .before .before .before)) in
-    let w = composed (replicate 480 0) _ _ _ e (rw length-replicate (omega (arith, threads-short (a .c) (a .k .runner) old new (a .value)))) in
+    (c .before .before .before .before .before .before .before .before .thread-span .ensures) in
+    let w = composed (replicate 480 0) _ _ _ e (rw length-replicate (omega (arith, threads-short (a .c) (a .k .runner) (a .waiter) old new (a .value)))) in
     (w .0, w .1)
 
 array-share-prefix-scratch : tie.Need-array-share-prefix-scratch
@@ -85,7 +72,6 @@ pub put-thread-part-spec : {M : Type 1} → statement M
 put-thread-part-spec =
     tie.close
     (tie.spec
-    waiter-of-requires
     thread-span-requires
     put-number-requires
     same-length

@@ -9,9 +9,11 @@ use Rattle.coding.specs.Logs.{noted, ends}
 use Rattle.calls.specs.declared.call.Call.{Call}
 use Rattle.calls.specs.Calls.{callOf}
 use Rattle.calls.specs.Refusals.{numberOf}
+use Rattle.calls.specs.Named.{namedBy}
 use Rattle.notes.specs.Spans.{frontIn, noteIn}
 use Rattle.noting.proofs.Fronts.{front-puts, front-closed, note-short}
 use Rattle.noting.proofs.Sizes.{composed}
+use Rattle.noting.proofs.Waiters.{waiter-found}
 use Rattle.replay.specs.Steps.{nextState}
 use Rattle.replay.proofs.Numbers.{number-by, value-by}
 use Rattle.replay.proofs.Recording.{ends-refused, Left, left}
@@ -83,6 +85,7 @@ fronted : (c : tie.After-put-message-part) → let a = c .before .before .before
     pen (c .put-message-part .last .0) (c .put-message-part .result) ≡ puts (pen (replicate 2048 0) 0) (frontIn (a .k) (a .bytes) (c .before .before .before .before .before .before .before .before .before .before .before .before .before .before .next-state .result) (c .before .before .before .before .before .before .before .before .before .before .before .before .before .before .before .before .before .named-by .result .found))
 fronted c =
     let a = c .before .before .before .before .before .before .before .before .before .before .before .before .before .before .before .before .before .before .before .before .args in
+    let named : c .before .before .before .before .before .before .before .before .before .before .before .before .before .before .before .before .before .named-by .result ≡ namedBy (a .k) (callOf (a .bytes)) = c .before .before .before .before .before .before .before .before .before .before .before .before .before .before .before .before .before .named-by .ensures ∙ ap (namedBy (a .k)) (c .before .before .before .before .before .before .before .before .before .before .before .before .before .before .before .before .before .before .call-of .ensures) in
     rw (
       c .put-message-part .ensures,
       c .before .before .before .put-event-part .ensures,
@@ -91,7 +94,7 @@ fronted c =
       c .before .before .before .before .before .before .before .before .before .before .before .before .put-start .ensures,
       c .before .before .before .before .before .before .before .before .before .before .before .before .before .before .before .before .before .before .call-of .ensures,
     )
-    (front-puts _ (a .k) (a .bytes) _ _)
+    (front-puts _ (a .k) (a .bytes) _ _ _ (waiter-found (a .k) (callOf (a .bytes)) _ _ _ named))
 
 slice-aggregate-put-end : tie.Need-slice-aggregate-put-end
 slice-aggregate-put-end c = search needs
