@@ -1,2 +1,2 @@
-// The whole note of a call.
+// The parts of a call's note.
 pub mod note;

@@ -1,4 +1,4 @@
-// The note of a call: the call record, five sections each behind its length, and the whole length.
+// The parts of a note: the call record, five sections each behind its length, and the whole length. The call itself puts them together.
 ghost use mathlib.Core.Path.{_≡_};
 ghost use Prim.Native.Nat.{_+_, min};
 ghost use Rattle.coding.specs.Bytes.{le};

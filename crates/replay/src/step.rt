@@ -34,7 +34,7 @@ pub(crate) fn next_state(k: Kernel, c: Call) -> Kernel
     next
 }
 
-// The call on a state that keeps its rules: a run that starts from a tested state needs no further test.
+// The call on a state that keeps its rules.
 fn step(k: Kernel, c: Call) -> Stepped
     ensures { λ r. ⌜ r ≡ step k c ⌝ }
 {
