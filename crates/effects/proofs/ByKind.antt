@@ -18,7 +18,7 @@ abbrev pub NoneOf : ℕ → ℕ → Type 0
 NoneOf n zero = Unit {0}
 NoneOf n (suc m) = NoneOf n m × (n ≡ suc m → ⊥)
 
-none-of : (n m : ℕ) → NoneOf n m → n ≤ m → n ≡ 0
+pub none-of : (n m : ℕ) → NoneOf n m → n ≤ m → n ≡ 0
 none-of n zero h l = omega arith
 none-of n (suc m) h l = cases (eqb n (suc m)) (λ e. absurd (h .1 (eqb-true n (suc m) e))) (λ e. none-of n m (h .0) (omega (arith, eqb-false n (suc m) e)))
 
@@ -33,13 +33,11 @@ module _ (k : Kernel) (c : Call) where
   unfolding effect
   does-at n e = rw e
 
-  -- no other kind does anything
-  pub does-none : NoneOf (c .kind) 30 → k ≡ effect k c
-  does-none h =
-      cases (ltb (c .kind) 31)
-      (λ e. does-at 0 (none-of (c .kind) 30 h (omega (arith, ltb-true))))
-      (λ e. let z = past-end kinds noKind {k = 31} {u = c .kind} refl (ltb-false (c .kind) 31 e) in
-      ap (λ (d : Kind). d .does k c) (sym z) ∙ does-at (c .kind) refl)
+  -- past the last kind nothing is done
+  pub does-past : 31 ≤ c .kind → k ≡ effect k c
+  does-past h =
+      let z = past-end kinds noKind {k = 31} {u = c .kind} refl h in
+      ap (λ (d : Kind). d .does k c) (sym z) ∙ does-at (c .kind) refl
 
   pub value-at : (n : ℕ) → c .kind ≡ n → getD kinds n noKind .value k c ≡ valueOf k c
   unfolding valueOf

@@ -6,8 +6,10 @@ ghost use lib.ListN.{getD};
 ghost use Rattle.queue.specs.Lists.{keep};
 ghost use Rattle.queue.specs.Queues.{items, pack};
 ghost use Rattle.kernel.specs.Records.{noMessage};
-ghost use Rattle.threads.specs.Threads.{born, blocked, awake, withPriority, block, wake, createThread, owns, freedFrom, freeMessages, destroyThread, setPriority, resetPriority, yielded, sleep};
+ghost use Rattle.kernel.specs.Moves.{relocate, recordIn};
+ghost use Rattle.threads.specs.Threads.{born, blocked, awake, withPriority, block, createThread, owns, freedFrom, freeMessages, destroyThread, setPriority, resetPriority, yielded, sleep};
 use calls::call::Call;
+use kernel::moves::Threads;
 use kernel::records::Condition;
 use kernel::records::Kernel;
 use kernel::records::Message;
@@ -83,12 +85,12 @@ pub fn block(k: Kernel, condition: Condition, timeout: u32) -> Kernel
 }
 
 // Thread t wakes for the reason `why`.
-pub fn wake(k: Kernel, t: u8, why: Wake) -> Kernel
-    ensures { λ x. ⌜ x ≡ wake why t k ⌝ }
+pub fn woken(p: Threads, t: u8, why: Wake) -> Threads
+    ensures { λ x. ⌜ x ≡ relocate t (awake why (recordIn p t .reply) (recordIn p t)) p ⌝ }
 {
-    let threads = k.threads;
-    let r = records::thread_at(threads, t as u16);
-    parts::placed(k, t, awake(r, why, r.reply))
+    let now = p.records;
+    let r = records::thread_at(now, t as u16);
+    moving::relocated(p, t, awake(r, why, r.reply))
 }
 
 pub fn create_thread(k: Kernel, c: Call) -> Kernel

@@ -1,3 +1,4 @@
+pub mod Waiting
 pub mod Semaphores
 pub mod Events
 pub mod Messages

@@ -1,7 +1,10 @@
 // Semaphores: create, destroy, periodic, pend and post.
 ghost use mathlib.Core.Path.{_≡_};
 ghost use Rattle.threads.specs.Parts.{withSemaphore};
+ghost use Rattle.objects.specs.Waiting.{Does};
 ghost use Rattle.objects.specs.Semaphores.{withCount, withTicks, createSemaphore, destroySemaphore, makePeriodic, removePeriodic, pendSemaphore, raised, post, postSemaphore};
+use crate::waiting;
+use crate::waiting::Waiting;
 use calls::call::Call;
 use kernel::records::Condition;
 use kernel::records::Kernel;
@@ -100,22 +103,26 @@ fn raised(r: Semaphore) -> Semaphore
 }
 
 // The first waiter wakes; without waiters the count goes up.
-pub fn post(k: Kernel, i: u8) -> Kernel
-    ensures { λ x. ⌜ x ≡ post i k ⌝ }
+pub fn post(w: Waiting, i: u8) -> Waiting
+    ensures { λ x. ⌜ Does (post i) w x ⌝ }
 {
-    let threads = k.threads;
-    let places = k.places;
-    let first = lines::first_of_line(threads, places, 256 + (i as u16));
+    let p = w.threads;
+    let records = p.records;
+    let places = p.places;
+    let semaphores = w.semaphores;
+    let first = lines::first_of_line(records, places, 256 + (i as u16));
     if first == 255 {
-        let semaphores = k.semaphores;
         let r = records::semaphore_at(semaphores, i);
-        return with_semaphore(k, i, raised(r));
+        return waiting::stored(w, i, raised(r));
     }
-    living::wake(k, first, Wake::Met)
+    Waiting {
+        threads: living::woken(p, first, Wake::Met),
+        semaphores: semaphores,
+    }
 }
 
 pub fn post_semaphore(k: Kernel, c: Call) -> Kernel
     ensures { λ x. ⌜ x ≡ postSemaphore k c ⌝ }
 {
-    post(k, c.a)
+    waiting::with_waiting(k, post(waiting::waiting_of(k), c.a))
 }

@@ -1,6 +1,7 @@
 // Events and event bits: load, pend, set and clear.
 ghost use mathlib.Core.Path.{_≡_};
-ghost use Rattle.objects.specs.Events.{wakeIn, wokenIn, workOutFrom, workedOut, loadEvent, pendEvent, setBit, clearBit};
+ghost use Rattle.objects.specs.Events.{wokenIn, workOutFrom, workedOut, loadEvent, pendEvent};
+ghost use Rattle.signals.specs.Signals.{signalled};
 use calls::call::Call;
 use kernel::moves::Threads;
 use kernel::places;
@@ -31,19 +32,10 @@ fn woken_in(p: Threads, h: u16) -> Threads
             home = places::home_of(r);
         }
         if home == h {
-            next = woken_one(next, t);
+            next = living::woken(next, t, Wake::Met);
         }
     }
     next
-}
-
-// Thread t wakes as met.
-fn woken_one(p: Threads, t: u8) -> Threads
-    ensures { λ x. ⌜ x ≡ wakeIn t p ⌝ }
-{
-    let now = p.records;
-    let r = records::thread_at(now, t as u16);
-    moving::relocated(p, t, living::awake(r, Wake::Met, r.reply))
 }
 
 // Each TRUE event wakes all its waiters, in id order.
@@ -63,15 +55,16 @@ fn worked_in(p: Threads, events: [Event; 8], bits: u32) -> Threads
     next
 }
 
-pub fn worked_out(k: Kernel) -> Kernel
+fn worked_out(k: Kernel) -> Kernel
     ensures { λ x. ⌜ x ≡ workedOut k ⌝ }
 {
     let events = k.events;
     parts::with_threads(k, worked_in(parts::threads_of(k), events, k.bits))
 }
 
-pub fn load_event(k: Kernel, c: Call) -> Kernel
-    ensures { λ x. ⌜ x ≡ loadEvent k c ⌝ }
+// Event a with its new data, before events are worked out.
+fn loaded(k: Kernel, c: Call) -> Kernel
+    ensures { λ x. ⌜ workedOut x ≡ loadEvent k c ⌝ }
 {
     let mut next = k;
     if c.a < 8 {
@@ -82,7 +75,33 @@ pub fn load_event(k: Kernel, c: Call) -> Kernel
             values: c.d,
         };
     }
-    worked_out(next)
+    next
+}
+
+// The event loaded, or the bit set or cleared.
+fn changed(k: Kernel, c: Call) -> Kernel
+    ensures { λ x. ⌜ workedOut x ≡ signalled k c ⌝ }
+{
+    let mut next = k;
+    let kind = c.kind;
+    match kind {
+        20 => loaded(k, c),
+        22 | 29 => {
+            next.bits = bits::with_bit(k.bits, c.a);
+            next
+        }
+        _ => {
+            next.bits = bits::without_bit(k.bits, c.a);
+            next
+        }
+    }
+}
+
+// The kinds after which events are worked out. One place works them out for all: that spares copies of the state.
+pub fn signalled(k: Kernel, c: Call) -> Kernel
+    ensures { λ x. ⌜ x ≡ signalled k c ⌝ }
+{
+    worked_out(changed(k, c))
 }
 
 pub fn pend_event(k: Kernel, c: Call) -> Kernel
@@ -94,20 +113,4 @@ pub fn pend_event(k: Kernel, c: Call) -> Kernel
         return k;
     }
     living::block(k, Condition::ForEvent(c.a), c.c)
-}
-
-pub fn set_bit(k: Kernel, c: Call) -> Kernel
-    ensures { λ x. ⌜ x ≡ setBit k c ⌝ }
-{
-    let mut next = k;
-    next.bits = bits::with_bit(k.bits, c.a);
-    worked_out(next)
-}
-
-pub fn clear_bit(k: Kernel, c: Call) -> Kernel
-    ensures { λ x. ⌜ x ≡ clearBit k c ⌝ }
-{
-    let mut next = k;
-    next.bits = bits::without_bit(k.bits, c.a);
-    worked_out(next)
 }

@@ -39,21 +39,7 @@ pub fn with_threads(k: Kernel, p: Threads) -> Kernel
 pub fn placed(k: Kernel, id: u8, r: Thread) -> Kernel
     ensures { λ x. ⌜ x ≡ place id r k ⌝ }
 {
-    if 32 <= id {
-        return k;
-    }
-    let i = id as usize;
-    let records = k.threads;
-    let places = k.places;
-    let time = k.time;
-    let old = records[i];
-    let mut next = k;
-    next.threads[i] = r;
-    next.places = moving::rejoined_places(records, places, id, r);
-    if old.ticks != r.ticks {
-        next.time = moving::rejoined_time(records, time, id, r);
-    }
-    next
+    with_threads(k, moving::relocated(threads_of(k), id, r))
 }
 
 // Message `id` gets the record r and takes its place.

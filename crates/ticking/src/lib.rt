@@ -2,7 +2,8 @@
 ghost use mathlib.Core.Path.{_≡_};
 ghost use mathlib.Core.List.{map};
 ghost use Rattle.threads.specs.Parts.{each};
-ghost use Rattle.effects.specs.Time.{reasonAt, timeUp, due, aged, timePasses, pulse, pulseFrom, tick};
+ghost use Rattle.objects.specs.Waiting.{Does};
+ghost use Rattle.effects.specs.Time.{later, reasonAt, timeUp, due, aged, timePasses, pulse, pulseFrom, tick};
 use calls::call::Call;
 use kernel::moves::Threads;
 use kernel::records::Condition;
@@ -11,6 +12,8 @@ use kernel::records::Object;
 use kernel::records::Thread;
 use kernel::records::Wake;
 use objects::semaphores;
+use objects::waiting;
+use objects::waiting::Waiting;
 use seek::records;
 use threads::parts;
 
@@ -33,8 +36,7 @@ fn time_up(p: Threads, t: u8) -> Threads
     let now = p.records;
     let r = records::thread_at(now, t as u16);
     let c = r.condition;
-    let why = reason_at(c);
-    moving::relocated(p, t, living::awake(r, why, r.reply))
+    living::woken(p, t, reason_at(c))
 }
 
 // Those whose last tick this is wake, in time queue order.
@@ -102,29 +104,29 @@ fn time_passes(p: Threads) -> Threads
 }
 
 // Periodic semaphore i loses a tick, and at 0 is posted and set to its period.
-fn pulse(k: Kernel, i: u8) -> Kernel
-    ensures { λ x. ⌜ x ≡ pulse i k ⌝ }
+fn pulse(w: Waiting, i: u8) -> Waiting
+    ensures { λ x. ⌜ Does (pulse i) w x ⌝ }
 {
-    let semaphores = k.semaphores;
-    let r = records::semaphore_at(semaphores, i);
+    let now = w.semaphores;
+    let r = records::semaphore_at(now, i);
     if r.period == 0 {
-        return k;
+        return w;
     }
     if r.ticks == 1 {
-        let next = semaphores::post(k, i);
+        let next = semaphores::post(w, i);
         let after = next.semaphores;
         let s = records::semaphore_at(after, i);
-        return semaphores::with_semaphore(next, i, semaphores::with_ticks(s, r.period, r.period));
+        return waiting::stored(next, i, semaphores::with_ticks(s, r.period, r.period));
     }
     let left = if 0 < r.ticks { r.ticks - 1 } else { 0 };
-    semaphores::with_semaphore(k, i, semaphores::with_ticks(r, left, r.period))
+    waiting::stored(w, i, semaphores::with_ticks(r, left, r.period))
 }
 
 // The periodic semaphores in id order.
-fn pulses(k: Kernel) -> Kernel
-    ensures { λ x. ⌜ x ≡ pulseFrom 0 16 k ⌝ }
+fn pulses(w: Waiting) -> Waiting
+    ensures { λ x. ⌜ Does (pulseFrom 0 16) w x ⌝ }
 {
-    let mut next = k;
+    let mut next = w;
     let mut i: u8 = 0;
     while i < 16 {
         let j = i as usize;
@@ -136,14 +138,26 @@ fn pulses(k: Kernel) -> Kernel
     next
 }
 
+// A full uptime goes back to 0.
+fn later(uptime: u32) -> u32
+    ensures { λ n. ⌜ n ≡ later uptime ⌝ }
+{
+    if uptime == 4294967295 {
+        return 0;
+    }
+    uptime + 1
+}
+
 pub fn tick(k: Kernel, c: Call) -> Kernel
     ensures { λ x. ⌜ x ≡ tick k c ⌝ }
 {
-    let mut next = k;
-    next.uptime = if k.uptime == 4294967295 {
-        0
-    } else {
-        k.uptime + 1
+    let semaphores = k.semaphores;
+    let threads = time_passes(parts::threads_of(k));
+    let w = Waiting {
+        threads: threads,
+        semaphores: semaphores,
     };
-    pulses(parts::with_threads(next, time_passes(parts::threads_of(k))))
+    let mut next = waiting::with_waiting(k, pulses(w));
+    next.uptime = later(k.uptime);
+    next
 }

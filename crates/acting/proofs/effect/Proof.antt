@@ -1,9 +1,46 @@
 -- `acting::effect` meets its contract: each arm does what the table has at its kind.
-use mathlib.Core.Path.{_∙_}
+use Prim.Native.Nat.{ℕ, _≤_, _<_}
+use mathlib.Core.Path.{_≡_, refl, _∙_}
+use mathlib.Core.Logic.{_⊎_, ⊎-elim, inl, inr}
+use native.Mathlib.Omega.{arith}
+use lib.Dec.{eqb}
+use lib.ListN.{getD}
+use borrow.Author.Tests.{eqb-true, eqb-false}
+use borrow.Table.Steps.{cases}
 use borrow.Author.Needs.{needs}
-use Rattle.effects.proofs.ByKind.{does-at, does-none}
+use Rattle.kernel.specs.declared.records.Kernel.{Kernel}
+use Rattle.calls.specs.declared.call.Call.{Call}
+use Rattle.calls.proofs.Runs.{asKind}
+use Rattle.signals.specs.Signals.{signalled}
+use Rattle.effects.specs.Effects.{kinds, noKind, effect}
+use Rattle.effects.proofs.ByKind.{NoneOf, none-of, does-at, does-past}
 use Rattle.acting.proofs.effect.Statement.{statement}
 use Rattle.acting.proofs.effect.Tie as tie
+
+-- what the five kinds of signals do, by the number of the kind
+signals-at : (k : Kernel) (c : Call) (m : ℕ) → signalled k (asKind c m) ≡ getD kinds m noKind .does k (asKind c m) → c .kind ≡ m → signalled k c ≡ effect k c
+signals-at k c m h e =
+    let mid : signalled k c ≡ getD kinds m noKind .does k c = rw e h in
+    mid ∙ does-at k c m e
+
+-- none of the kinds that have an arm of their own
+abbrev Left : ℕ → Type 0
+Left n =
+    (((((((NoneOf n 18 × (n ≡ 19 ⊎ n ≡ 28 → ⊥)) × (n ≡ 20 → ⊥)) × (n ≡ 21 → ⊥)) × (n ≡ 24 → ⊥)) × (n ≡ 25 → ⊥)) × (n ≡ 26 → ⊥)) × (n ≡ 27 → ⊥))
+
+left : (k : Kernel) (c : Call) → Left (c .kind) → 1 ≤ c .kind → c .kind < 31 → signalled k c ≡ effect k c
+left k c r low high =
+    let n = c .kind in
+    let t = r .0 .0 .0 .0 .0 .0 .1 in
+    cases (eqb n 22) (λ e. signals-at k c 22 refl (eqb-true n 22 e))
+    (λ e22. cases (eqb n 23) (λ e. signals-at k c 23 refl (eqb-true n 23 e))
+    (λ e23. cases (eqb n 29) (λ e. signals-at k c 29 refl (eqb-true n 29 e))
+    (λ e29. cases (eqb n 30) (λ e. signals-at k c 30 refl (eqb-true n 30 e))
+    (λ e30.
+    let all : NoneOf n 30 =
+    ((((((((((((r .0 .0 .0 .0 .0 .0 .0, λ e. t (inl e)), r .0 .0 .0 .0 .0 .1), r .0 .0 .0 .0 .1), eqb-false n 22 e22), eqb-false n 23 e23), r .0 .0 .0 .1), r .0 .0 .1), r .0 .1), r .1), λ e. t (inr e)), eqb-false n 29 e29), eqb-false n 30 e30) in
+    let z : n ≡ 0 = none-of n 30 all (omega arith) in
+    absurd (omega (arith, z))))))
 
 tick-requires : tie.Need-tick-requires
 tick-requires c κs = search needs
@@ -62,17 +99,11 @@ pend-semaphore-requires c κs = search needs
 post-semaphore-requires : tie.Need-post-semaphore-requires
 post-semaphore-requires c κs = search needs
 
-load-event-requires : tie.Need-load-event-requires
-load-event-requires c κs = search needs
+signalled-requires : tie.Need-signalled-requires
+signalled-requires c κs = search needs
 
 pend-event-requires : tie.Need-pend-event-requires
 pend-event-requires c κs = search needs
-
-set-bit-requires : tie.Need-set-bit-requires
-set-bit-requires c κs = search needs
-
-clear-bit-requires : tie.Need-clear-bit-requires
-clear-bit-requires c κs = search needs
 
 create-message-requires : tie.Need-create-message-requires
 create-message-requires c κs = search needs
@@ -85,15 +116,6 @@ post-message-requires c κs = search needs
 
 pend-message-requires : tie.Need-pend-message-requires
 pend-message-requires c κs = search needs
-
-post-semaphore-requires-2 : tie.Need-post-semaphore-requires-2
-post-semaphore-requires-2 c κs = search needs
-
-set-bit-requires-2 : tie.Need-set-bit-requires-2
-set-bit-requires-2 c κs = search needs
-
-clear-bit-requires-2 : tie.Need-clear-bit-requires-2
-clear-bit-requires-2 c κs = search needs
 
 returns : tie.Need-returns
 returns c = c .tick .ensures ∙ does-at _ _ 1 (c .before .match .keys1)
@@ -150,43 +172,33 @@ returns-18 : tie.Need-returns-18
 returns-18 c = c .pend-semaphore .ensures ∙ does-at _ _ 18 (c .before .match .keys18)
 
 returns-19 : tie.Need-returns-19
-returns-19 c = c .post-semaphore .ensures ∙ does-at _ _ 19 (c .before .match .keys19)
+returns-19 c =
+    c .post-semaphore .ensures ∙ ⊎-elim (does-at _ _ 19) (does-at _ _ 28) (c .before .match .keys19)
 
 returns-20 : tie.Need-returns-20
-returns-20 c = c .load-event .ensures ∙ does-at _ _ 20 (c .before .match .keys20)
+returns-20 c = c .pend-event .ensures ∙ does-at _ _ 21 (c .before .match .keys21)
 
 returns-21 : tie.Need-returns-21
-returns-21 c = c .pend-event .ensures ∙ does-at _ _ 21 (c .before .match .keys21)
+returns-21 c = c .create-message .ensures ∙ does-at _ _ 24 (c .before .match .keys22)
 
 returns-22 : tie.Need-returns-22
-returns-22 c = c .set-bit .ensures ∙ does-at _ _ 22 (c .before .match .keys22)
+returns-22 c = c .destroy-message .ensures ∙ does-at _ _ 25 (c .before .match .keys23)
 
 returns-23 : tie.Need-returns-23
-returns-23 c = c .clear-bit .ensures ∙ does-at _ _ 23 (c .before .match .keys23)
+returns-23 c = c .post-message .ensures ∙ does-at _ _ 26 (c .before .match .keys24)
 
 returns-24 : tie.Need-returns-24
-returns-24 c = c .create-message .ensures ∙ does-at _ _ 24 (c .before .match .keys24)
+returns-24 c = c .pend-message .ensures ∙ does-at _ _ 27 (c .before .match .keys25)
 
 returns-25 : tie.Need-returns-25
-returns-25 c = c .destroy-message .ensures ∙ does-at _ _ 25 (c .before .match .keys25)
+returns-25 c = does-at _ _ 0 (omega arith)
 
 returns-26 : tie.Need-returns-26
-returns-26 c = c .post-message .ensures ∙ does-at _ _ 26 (c .before .match .keys26)
+returns-26 c = does-past _ _ (omega arith)
 
+-- of 1 to 30, the kinds that have no arm of their own
 returns-27 : tie.Need-returns-27
-returns-27 c = c .pend-message .ensures ∙ does-at _ _ 27 (c .before .match .keys27)
-
-returns-28 : tie.Need-returns-28
-returns-28 c = c .post-semaphore2 .ensures ∙ does-at _ _ 28 (c .before .match .keys28)
-
-returns-29 : tie.Need-returns-29
-returns-29 c = c .set-bit2 .ensures ∙ does-at _ _ 29 (c .before .match .keys29)
-
-returns-30 : tie.Need-returns-30
-returns-30 c = c .clear-bit2 .ensures ∙ does-at _ _ 30 (c .before .match .keys30)
-
-returns-31 : tie.Need-returns-31
-returns-31 c = does-none _ _ (c .match .rest)
+returns-27 c = c .signalled .ensures ∙ ⊎-elim (λ w. signals-at _ _ 20 refl (w .keys20)) (λ w. left (c .before .before .args .k) (c .before .before .args .c) (w .0 .rest) (w .1 .left) (w .2 .taken)) (c .before .match .came)
 
 pub effect-spec : {M : Type 1} → statement M
 effect-spec =
@@ -211,17 +223,12 @@ effect-spec =
     remove-periodic-requires
     pend-semaphore-requires
     post-semaphore-requires
-    load-event-requires
     pend-event-requires
-    set-bit-requires
-    clear-bit-requires
     create-message-requires
     destroy-message-requires
     post-message-requires
     pend-message-requires
-    post-semaphore-requires-2
-    set-bit-requires-2
-    clear-bit-requires-2
+    signalled-requires
     returns
     returns-2
     returns-3
@@ -248,8 +255,4 @@ effect-spec =
     returns-24
     returns-25
     returns-26
-    returns-27
-    returns-28
-    returns-29
-    returns-30
-    returns-31)
+    returns-27)

@@ -59,17 +59,18 @@ array-copy-out-r c = search needs
 home-of-requires : tie.Need-home-of-requires Inv-loop μ-loop
 home-of-requires c κs = search needs
 
-woken-one-requires : tie.Need-woken-one-requires Inv-loop μ-loop
-woken-one-requires c κs = search needs
+woken-requires : tie.Need-woken-requires Inv-loop μ-loop
+woken-requires c κs = search needs
 
 loop-less : tie.Need-loop-less Inv-loop μ-loop
 loop-less c = search needs
 
 loop-again : tie.Need-loop-again Inv-loop μ-loop
+unfolding wakeIn
 loop-again c =
     let a = c .before .before .before .before .before .before .before .before .before .args in
     let l = c .before .before .before .before .loop in
-    rw (c .woken-one .ensures) (walk-does wakeIn (isHome (a .p .records) (a .h)) (a .p) (a .p .places .at) (l .i) (l .inv) (omega arith) (eq-eqb _ _ (sym (meets (c .before .before)) ∙ c .before .if2 .taken)))
+    rw (c .woken .ensures) (walk-does wakeIn (isHome (a .p .records) (a .h)) (a .p) (a .p .places .at) (l .i) (l .inv) (omega arith) (eq-eqb _ _ (sym (meets (c .before .before)) ∙ c .before .if2 .taken)))
 
 loop-less-2 : tie.Need-loop-less-2 Inv-loop μ-loop
 loop-less-2 c = search needs
@@ -101,7 +102,7 @@ woken-in-spec =
     mul-r
     array-copy-out-r
     home-of-requires
-    woken-one-requires
+    woken-requires
     loop-less
     loop-again
     loop-less-2

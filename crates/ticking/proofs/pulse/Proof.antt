@@ -5,17 +5,18 @@ use mathlib.Core.Bool.{false}
 use mathlib.Core.Logic.{⊎-elim}
 use native.Mathlib.Omega.{arith}
 use lib.Dec.{eqb}
+use lib.ListN.{getD}
 use borrow.Author.Tests.{eq-eqb, ne-eqb}
 use borrow.Author.Needs.{needs}
 use Rattle.kernel.specs.declared.records.Semaphore.{Semaphore}
-use Rattle.kernel.specs.Records.{semaphore}
+use Rattle.kernel.specs.Records.{noSemaphore}
 use Rattle.effects.specs.Time.{pulse}
 use Rattle.ticking.proofs.pulse.Statement.{statement}
 use Rattle.ticking.proofs.pulse.Tie as tie
 
 -- what the semaphore's record says
 abbrev told : tie.After-semaphore-at → Semaphore
-told c = semaphore (c .before .before .args .k) (c .before .before .args .i)
+told c = getD (c .before .before .args .w .semaphores) (c .before .before .args .i) noSemaphore
 
 period : (c : tie.After-semaphore-at) → c .semaphore-at .result .period ≡ told c .period
 period c = ap (λ (r : Semaphore). r .period) (c .semaphore-at .ensures)
@@ -35,7 +36,7 @@ semaphore-at-requires c κs = search needs
 
 returns : tie.Need-returns
 unfolding pulse
-returns c =
+returns c k =
     let s = c .before .before in
     rw (eq-eqb (told s .period) 0 (sym (period s) ∙ c .if1 .taken))
 
@@ -48,14 +49,14 @@ semaphore-at-requires-2 c κs = search needs
 with-ticks-requires : tie.Need-with-ticks-requires
 with-ticks-requires c κs = search needs
 
-with-semaphore-requires : tie.Need-with-semaphore-requires
-with-semaphore-requires c κs = search needs
+stored-requires : tie.Need-stored-requires
+stored-requires c κs = search needs
 
 returns-2 : tie.Need-returns-2
 unfolding pulse
-returns-2 c =
+returns-2 c k =
     let s = c .before .before .before .before .before .before .before .before .before in
-    rw (periodic s (c .before .before .before .before .before .before .before .if1 .left), eq-eqb (told s .ticks) 1 (sym (ticks s) ∙ c .before .before .before .before .before .if2 .taken), c .with-semaphore .ensures, c .before .with-ticks .ensures, c .before .before .semaphore-at2 .ensures, c .before .before .before .before .post .ensures, s .semaphore-at .ensures)
+    rw (periodic s (c .before .before .before .before .before .before .before .if1 .left), eq-eqb (told s .ticks) 1 (sym (ticks s) ∙ c .before .before .before .before .before .if2 .taken), ← c .before .before .before .before .post .ensures k, c .stored .ensures, c .before .with-ticks .ensures, c .before .before .semaphore-at2 .ensures, s .semaphore-at .ensures)
 
 sub-left : tie.Need-sub-left
 sub-left c = search needs
@@ -63,14 +64,14 @@ sub-left c = search needs
 with-ticks-requires-2 : tie.Need-with-ticks-requires-2
 with-ticks-requires-2 c κs = search needs
 
-with-semaphore-requires-2 : tie.Need-with-semaphore-requires-2
-with-semaphore-requires-2 c κs = search needs
+stored-requires-2 : tie.Need-stored-requires-2
+stored-requires-2 c κs = search needs
 
 returns-3 : tie.Need-returns-3
 unfolding pulse
-returns-3 c =
+returns-3 c k =
     let s = c .before .before .before .before .before .before .before .before in
-    rw (periodic s (c .before .before .before .before .before .before .if1 .left), ne-eqb (told s .ticks) 1 (λ z. c .before .before .before .before .if2 .left (ticks s ∙ z)), c .with-semaphore2 .ensures, c .before .with-ticks2 .ensures, meets (c .before .before), s .semaphore-at .ensures)
+    rw (periodic s (c .before .before .before .before .before .before .if1 .left), ne-eqb (told s .ticks) 1 (λ z. c .before .before .before .before .if2 .left (ticks s ∙ z)), c .stored2 .ensures, c .before .with-ticks2 .ensures, meets (c .before .before), s .semaphore-at .ensures)
 
 pub pulse-spec : {M : Type 1} → statement M
 pulse-spec =
@@ -81,9 +82,9 @@ pulse-spec =
     post-requires
     semaphore-at-requires-2
     with-ticks-requires
-    with-semaphore-requires
+    stored-requires
     returns-2
     sub-left
     with-ticks-requires-2
-    with-semaphore-requires-2
+    stored-requires-2
     returns-3)

@@ -4,20 +4,21 @@ use mathlib.Core.Path.{_≡_, refl, sym, ap, _∙_}
 use native.Mathlib.Omega.{arith}
 use lib.ListN.{length, length-map}
 use borrow.Author.Needs.{needs}
+use Rattle.objects.specs.Waiting.{withWaiting, Does}
 use Rattle.effects.proofs.Pulses.{pulse-more, pulse-skips}
 use Rattle.effects.specs.Time.{pulseFrom}
 use Rattle.ticking.proofs.pulses.Statement.{statement}
 use Rattle.ticking.proofs.pulses.Tie as tie
 
 abbrev Inv-loop : tie.InvT-loop
-Inv-loop next₀ i₀ next i = (i ≤ 16) × (length (next .semaphores) ≡ 16) × (next ≡ pulseFrom 0 i next₀)
+Inv-loop next₀ i₀ next i = (i ≤ 16) × (length (next .semaphores) ≡ 16) × Does (pulseFrom 0 i) next₀ next
 
 abbrev μ-loop : tie.MeasureT-loop
 μ-loop next₀ i₀ next i = 16 - i
 
 loop-holds : tie.Need-loop-holds Inv-loop μ-loop
 unfolding pulseFrom
-loop-holds c = (omega arith, sym (length-map (c .args .k .semaphores) _) ∙ c .good .0 .1 .1 .1 .0 .1 .0 .1, refl)
+loop-holds c = (omega arith, sym (length-map (c .args .w .semaphores) _) ∙ c .good .0 .1 .1 .1 .0 .1 .0 .1, λ k. refl)
 
 cast-j : tie.Need-cast-j Inv-loop μ-loop
 cast-j c = search needs
@@ -43,7 +44,7 @@ loop-less c = search needs
 loop-again : tie.Need-loop-again Inv-loop μ-loop
 loop-again c =
     let l = c .before .before .before .loop in
-    (omega arith, sym (length-map (c .pulse .result .semaphores) _) ∙ c .pulse .ok .1 .1 .1 .0 .1 .0 .1, rw (c .pulse .ensures) (pulse-more (l .i) _ (l .inv .2)))
+    (omega arith, sym (length-map (c .pulse .result .semaphores) _) ∙ c .pulse .ok .1 .1 .1 .0 .1 .0 .1, λ k. c .pulse .ensures k ∙ pulse-more (l .i) _ (l .inv .2 k))
 
 loop-less-2 : tie.Need-loop-less-2 Inv-loop μ-loop
 loop-less-2 c = search needs
@@ -51,12 +52,12 @@ loop-less-2 c = search needs
 loop-again-2 : tie.Need-loop-again-2 Inv-loop μ-loop
 loop-again-2 c =
     let l = c .before .before .loop in
-    (omega arith, l .inv .1, pulse-skips (l .i) _ (l .inv .2) (c .if1 .left))
+    (omega arith, l .inv .1, λ k. pulse-skips (l .i) _ (l .inv .2 k) (c .if1 .left))
 
 returns : tie.Need-returns Inv-loop μ-loop
-returns c =
+returns c k =
     let l = c .before .loop in
-    l .inv .2 ∙ ap (λ (n : ℕ). pulseFrom 0 n (c .before .before .args .k)) (omega arith)
+    l .inv .2 k ∙ ap (λ (n : ℕ). pulseFrom 0 n (withWaiting (c .before .before .args .w) k)) (omega arith)
 
 pub pulses-spec : {M : Type 1} → statement M
 pulses-spec =

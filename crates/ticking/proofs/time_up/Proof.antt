@@ -1,4 +1,4 @@
--- `ticking::time_up` meets its contract: the thread's record is put anew.
+-- `ticking::time_up` meets its contract: what the thread waited for gives the reason.
 use borrow.Author.Needs.{needs}
 use Rattle.effects.specs.Time.{timeUp}
 use Rattle.ticking.proofs.time_up.Statement.{statement}
@@ -10,17 +10,12 @@ thread-at-requires c κs = search needs
 reason-at-requires : tie.Need-reason-at-requires
 reason-at-requires c κs = search needs
 
-awake-requires : tie.Need-awake-requires
-awake-requires c κs = search needs
-
-relocated-requires : tie.Need-relocated-requires
-relocated-requires c κs = search needs
+woken-requires : tie.Need-woken-requires
+woken-requires c κs = search needs
 
 returns : tie.Need-returns
 unfolding timeUp
-returns c = rw (c .relocated .ensures, c .before .awake .ensures, c .before .before .reason-at .ensures, c .before .before .before .thread-at .ensures)
+returns c = rw (c .woken .ensures, c .before .reason-at .ensures, c .before .before .thread-at .ensures)
 
 pub time-up-spec : {M : Type 1} → statement M
-time-up-spec =
-    tie.close
-    (tie.spec thread-at-requires reason-at-requires awake-requires relocated-requires returns)
+time-up-spec = tie.close (tie.spec thread-at-requires reason-at-requires woken-requires returns)

@@ -10,6 +10,8 @@ use borrow.Author.Needs.{needs}
 use Rattle.queue.specs.Lists.{isEmpty}
 use Rattle.kernel.specs.Places.{semaphoreQueue}
 use Rattle.seek.proofs.Firsts.{first-empty, first-head}
+use Rattle.threads.specs.Threads.{wake}
+use Rattle.objects.specs.Waiting.{withWaiting}
 use Rattle.objects.specs.Semaphores.{post}
 use Rattle.objects.proofs.semaphores.post.Statement.{statement}
 use Rattle.objects.proofs.semaphores.post.Tie as tie
@@ -30,28 +32,28 @@ semaphore-at-requires c κs = search needs
 raised-requires : tie.Need-raised-requires
 raised-requires c κs = search needs
 
-with-semaphore-requires : tie.Need-with-semaphore-requires
-with-semaphore-requires c κs = search needs
+stored-requires : tie.Need-stored-requires
+stored-requires c κs = search needs
 
 returns : tie.Need-returns
 unfolding post
-returns c =
-    let s = c .before .before .before .before .before .before .before .before in
-    let k = s .args .k in
-    let f = c .before .before .before .before .before .first-of-line .ensures in
-    let e : length (k .threads) ≡ 32 = sym (length-map (k .threads) _) ∙ s .good .0 .1 .1 .0 .1 .0 .1 in
-    let z : semaphoreQueue k (s .args .i) ≡ [] = empty _ (sym (first-empty (k .threads) e (k .places) (omega arith)) ∙ eq-eqb _ _ (sym f ∙ c .before .before .before .before .if1 .taken)) in
-    rw (z, c .with-semaphore .ensures, c .before .raised .ensures, c .before .before .semaphore-at .ensures)
+returns c k =
+    let s = c .before .before .before .before .before .before .before .before .before in
+    let p = s .args .w .threads in
+    let f = c .before .before .before .before .first-of-line .ensures in
+    let e : length (p .records) ≡ 32 = sym (length-map (p .records) _) ∙ s .good .0 .1 .1 .0 .1 .1 .0 .1 .0 .1 in
+    let z : semaphoreQueue (withWaiting (s .args .w) k) (s .args .i) ≡ [] = empty _ (sym (first-empty (p .records) e (p .places) (omega arith)) ∙ eq-eqb _ _ (sym f ∙ c .before .before .before .if1 .taken)) in
+    rw (z, c .stored .ensures, c .before .raised .ensures, c .before .before .semaphore-at .ensures)
 
-wake-requires : tie.Need-wake-requires
-wake-requires c κs = search needs
+woken-requires : tie.Need-woken-requires
+woken-requires c κs = search needs
 
 returns-2 : tie.Need-returns-2
-unfolding post
-returns-2 c =
-    let k = c .before .before .before .before .before .args .k in
+unfolding post wake
+returns-2 c k =
+    let p = c .before .before .before .before .before .before .before .args .w .threads in
     let f = c .before .before .first-of-line .ensures in
-    rw (first-head (k .threads) (k .places) _ (λ z. c .before .if1 .left (f ∙ z)), c .wake .ensures, f)
+    rw (first-head (p .records) (p .places) _ (λ z. c .before .if1 .left (f ∙ z)), c .woken .ensures, f)
 
 pub post-spec : {M : Type 1} → statement M
 post-spec =
@@ -61,7 +63,7 @@ post-spec =
     first-of-line-requires
     semaphore-at-requires
     raised-requires
-    with-semaphore-requires
+    stored-requires
     returns
-    wake-requires
+    woken-requires
     returns-2)

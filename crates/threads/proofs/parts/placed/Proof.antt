@@ -1,56 +1,19 @@
--- `threads::parts::placed` meets its contract: the move of `kernel::moves::relocated`, in the state itself.
-use native.Mathlib.Omega.{arith}
+-- `threads::parts::placed` meets its contract: the move, on the part that threads move in.
 use borrow.Author.Needs.{needs}
-use borrow.Author.Tests.{lt-ltb, le-ltb, eq-eqb, ne-eqb}
-use Rattle.kernel.specs.Moves.{recordIn, relocate}
-use Rattle.kernel.specs.Standing.{threadsOf}
 use Rattle.threads.proofs.parts.placed.Statement.{statement}
 use Rattle.threads.proofs.parts.placed.Tie as tie
 
+threads-of-requires : tie.Need-threads-of-requires
+threads-of-requires c κs = search needs
+
+relocated-requires : tie.Need-relocated-requires
+relocated-requires c κs = search needs
+
+with-threads-requires : tie.Need-with-threads-requires
+with-threads-requires c κs = search needs
+
 returns : tie.Need-returns
-unfolding relocate
-returns c = rw (le-ltb (c .before .args .id) 32 (c .if1 .taken))
-
-mul-old : tie.Need-mul-old
-mul-old c = search needs
-
-array-copy-out-old : tie.Need-array-copy-out-old
-array-copy-out-old c = search needs
-
-mul-r : tie.Need-mul-r
-mul-r c = search needs
-
-element-set-from-r : tie.Need-element-set-from-r
-element-set-from-r c = search needs
-
-rejoined-places-requires : tie.Need-rejoined-places-requires
-rejoined-places-requires c κs = search needs
-
-rejoined-time-requires : tie.Need-rejoined-time-requires
-rejoined-time-requires c κs = search needs
-
-returns-2 : tie.Need-returns-2
-unfolding relocate
-returns-2 c =
-    let a = c .before .before .before .before .before .before .before .before .before .before .args in
-    rw (lt-ltb (a .id) 32 (c .before .before .before .before .before .before .before .before .before .if1 .left), ne-eqb (recordIn (threadsOf (a .k)) (a .id) .ticks) (a .r .ticks) (λ e. omega (arith, c .before .if2 .taken)), c .before .before .before .before .rejoined-places .ensures, c .rejoined-time .ensures)
-
-returns-3 : tie.Need-returns-3
-unfolding relocate
-returns-3 c =
-    let a = c .before .before .before .before .before .before .before .before .before .args in
-    rw (lt-ltb (a .id) 32 (c .before .before .before .before .before .before .before .before .if1 .left), eq-eqb (recordIn (threadsOf (a .k)) (a .id) .ticks) (a .r .ticks) (omega arith), c .before .before .before .rejoined-places .ensures)
+returns c = rw (c .with-threads .ensures, c .before .relocated .ensures, c .before .before .threads-of .ensures)
 
 pub placed-spec : {M : Type 1} → statement M
-placed-spec =
-    tie.close
-    (tie.spec
-    returns
-    mul-old
-    array-copy-out-old
-    mul-r
-    element-set-from-r
-    rejoined-places-requires
-    rejoined-time-requires
-    returns-2
-    returns-3)
+placed-spec = tie.close (tie.spec threads-of-requires relocated-requires with-threads-requires returns)

@@ -1,8 +1,7 @@
--- `signals::woken_one` meets its contract: the thread's record is put anew.
+-- `living::woken` meets its contract: the thread's record is put anew.
 use borrow.Author.Needs.{needs}
-use Rattle.objects.specs.Events.{wakeIn}
-use Rattle.signals.proofs.woken_one.Statement.{statement}
-use Rattle.signals.proofs.woken_one.Tie as tie
+use Rattle.living.proofs.woken.Statement.{statement}
+use Rattle.living.proofs.woken.Tie as tie
 
 thread-at-requires : tie.Need-thread-at-requires
 thread-at-requires c κs = search needs
@@ -14,8 +13,7 @@ relocated-requires : tie.Need-relocated-requires
 relocated-requires c κs = search needs
 
 returns : tie.Need-returns
-unfolding wakeIn
 returns c = rw (c .relocated .ensures, c .before .awake .ensures, c .before .before .thread-at .ensures)
 
-pub woken-one-spec : {M : Type 1} → statement M
-woken-one-spec = tie.close (tie.spec thread-at-requires awake-requires relocated-requires returns)
+pub woken-spec : {M : Type 1} → statement M
+woken-spec = tie.close (tie.spec thread-at-requires awake-requires relocated-requires returns)
