@@ -1,6 +1,7 @@
 // A program for timing: at most 4,096 records from standard input, run 256 times, each time from fresh with an empty log, and
 // no line for a call. It prints how many records a round has, and of all rounds the accepted calls and the bytes of their notes.
 use kernel::records;
+use kernel::records::Kernel;
 use reading::last;
 use replay::logs;
 
@@ -16,12 +17,11 @@ fn one_if(accepted: bool) -> u64 {
 }
 
 // The whole records of s; a shorter tail is dropped. No call tests the state rules: fresh keeps them, and so does every state after it.
-// The first call, of a record of zeros, is refused and leaves all as it is: a second place that calls `recorded` keeps the compiler from
-// taking it into the loop and the state apart, which costs more than the call.
-fn round(s: &[u8], log: &mut [u8]) -> Total {
-    let start = logs::recorded(records::fresh(), [0u8; 16], log, 0);
-    let mut k = start.kernel;
-    let mut used = start.used;
+// The state to start from comes from outside, by two calls: were it made here, the compiler would take it apart, and copy every state
+// after it field by field.
+fn round(fresh: Kernel, s: &[u8], log: &mut [u8]) -> Total {
+    let mut k = fresh;
+    let mut used: usize = 0;
     let mut accepted: u64 = 0;
     let mut at: usize = 0;
     while 16 <= s.len() - at {
@@ -37,15 +37,13 @@ fn round(s: &[u8], log: &mut [u8]) -> Total {
     }
 }
 
-// All of them.
+// The first of them, and the others.
 fn all_rounds(s: &[u8], log: &mut [u8; 1048576]) -> Total {
-    let mut total = Total {
-        accepted: 0,
-        bytes: 0,
-    };
-    let mut turn: u64 = 0;
+    let fresh = records::fresh();
+    let mut total = round(fresh, s, log);
+    let mut turn: u64 = 1;
     while turn < 256 {
-        let r = round(s, log);
+        let r = round(fresh, s, log);
         total = Total {
             accepted: std::num::wrapping_add_u64(total.accepted, r.accepted),
             bytes: std::num::wrapping_add_u64(total.bytes, r.bytes),

@@ -4,16 +4,22 @@ use Rattle.rounds.proofs.all_rounds.Statement.{statement}
 use Rattle.rounds.proofs.all_rounds.Tie as tie
 
 abbrev Inv-loop : tie.InvT-loop
-Inv-loop s log₀ total₀ turn₀ log total turn = turn ≤ 256
+Inv-loop s fresh log₀ total₀ turn₀ log total turn = turn ≤ 256
 
 abbrev μ-loop : tie.MeasureT-loop
-μ-loop s log₀ total₀ turn₀ log total turn = 256 - turn
+μ-loop s fresh log₀ total₀ turn₀ log total turn = 256 - turn
+
+fresh-requires : tie.Need-fresh-requires Inv-loop μ-loop
+fresh-requires c κs = search needs
+
+round-requires : tie.Need-round-requires Inv-loop μ-loop
+round-requires c κs = search needs
 
 loop-holds : tie.Need-loop-holds Inv-loop μ-loop
 loop-holds c = search needs
 
-round-requires : tie.Need-round-requires Inv-loop μ-loop
-round-requires c κs = search needs
+round-requires-2 : tie.Need-round-requires-2 Inv-loop μ-loop
+round-requires-2 c κs = search needs
 
 wrapping-add-u64-requires : tie.Need-wrapping-add-u64-requires Inv-loop μ-loop
 wrapping-add-u64-requires c κs = search needs
@@ -39,8 +45,10 @@ all-rounds-spec =
     (tie.spec
     Inv-loop
     μ-loop
-    loop-holds
+    fresh-requires
     round-requires
+    loop-holds
+    round-requires-2
     wrapping-add-u64-requires
     wrapping-add-u64-requires-2
     add-turn

@@ -12,12 +12,6 @@ Inv-loop s log₀ k₀ used₀ accepted₀ at₀ log k used accepted at = (at �
 abbrev μ-loop : tie.MeasureT-loop
 μ-loop s log₀ k₀ used₀ accepted₀ at₀ log k used accepted at = length s - at
 
-fresh-requires : tie.Need-fresh-requires Inv-loop μ-loop
-fresh-requires c κs = search needs
-
-recorded-requires : tie.Need-recorded-requires Inv-loop μ-loop
-recorded-requires c κs = search needs
-
 loop-holds : tie.Need-loop-holds Inv-loop μ-loop
 loop-holds c = search needs
 
@@ -36,8 +30,8 @@ part-record-in-end c = search needs
 record-in-requires : tie.Need-record-in-requires Inv-loop μ-loop
 record-in-requires c κs = search needs
 
-recorded-requires-2 : tie.Need-recorded-requires-2 Inv-loop μ-loop
-recorded-requires-2 c κs = search needs
+recorded-requires : tie.Need-recorded-requires Inv-loop μ-loop
+recorded-requires c κs = search needs
 
 one-if-requires : tie.Need-one-if-requires Inv-loop μ-loop
 one-if-requires c κs = search needs
@@ -46,7 +40,7 @@ wrapping-add-u64-requires : tie.Need-wrapping-add-u64-requires Inv-loop μ-loop
 wrapping-add-u64-requires c κs = search needs
 
 add-at : tie.Need-add-at Inv-loop μ-loop
-add-at c = omega (arith, c .before .before .before .before .before .before .before .before .before .before .before .before .before .before .before .before .before .before .before .before .good .0)
+add-at c = omega (arith, c .before .before .before .before .before .before .before .before .before .before .before .before .before .before .good .1 .0)
 
 loop-less : tie.Need-loop-less Inv-loop μ-loop
 loop-less c = search needs
@@ -66,15 +60,13 @@ round-spec =
     (tie.spec
     Inv-loop
     μ-loop
-    fresh-requires
-    recorded-requires
     loop-holds
     sub-loop
     sub-record-in
     part-record-in-start
     part-record-in-end
     record-in-requires
-    recorded-requires-2
+    recorded-requires
     one-if-requires
     wrapping-add-u64-requires
     add-at
