@@ -19,8 +19,7 @@ use Rattle.calls.proofs.TableOrder.{given-exactly, accepted-exactly as none-exa
 use Rattle.threads.specs.Parts.{scheduled}
 use Rattle.effects.specs.Effects.{effect}
 use Rattle.kept.proofs.Kept.{rules-kept}
-use Rattle.replay.specs.declared.step.Stepped.{Stepped}
-use Rattle.replay.specs.Steps.{accepted, refused, step, called}
+use Rattle.replay.specs.Steps.{Stepped, accepted, refused, step, called}
 use Rattle.replay.specs.Promises.{BrokenIsRefused, BrokenIsSame, RefusedExactly, AcceptedExactly, RefusalChangesNothing}
 use Rattle.replay.specs.Promises.{RulesAreKept, RunnerIsAnswered, FirstReadyRuns, RunnerStaysInRegion, OneResult}
 use Rattle.replay.proofs.RunnerStays.{effect-runner}
@@ -96,4 +95,4 @@ runner-stays-in-region k bytes Z R =
 
 pub one-result : OneResult
 unfolding OneResult
-one-result k bytes r s e f = e ∙ sym f
+one-result k bytes log used r s l m (e, x) (f, y) = (e ∙ sym f, x ∙ sym y)

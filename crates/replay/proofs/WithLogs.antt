@@ -22,9 +22,8 @@ use Rattle.notes.specs.Undoes.{undoes}
 use Rattle.notes.proofs.Lengths.{note-short}
 use Rattle.notes.proofs.Yields.{call-within}
 use Rattle.notes.proofs.Undoing.{state-found, last-sizes, yields-last, yields-undoes, undo-exactly}
-use Rattle.replay.specs.declared.step.Stepped.{Stepped}
 use Rattle.replay.specs.declared.logs.Logged.{Logged}
-use Rattle.replay.specs.Steps.{answer, accepted, refused, step, called}
+use Rattle.replay.specs.Steps.{Stepped, answer, accepted, refused, step, called}
 use Rattle.replay.specs.Logs.{logged, nextOf, noteFor, recorded, logAfter, partAfter, calledWith, logCalled, partCalled, backAt, undone}
 use Rattle.replay.specs.Promises.{ThirteenExactly, AnsweredAlike, RefusalLeavesLog, UndoneExactly, UndoneIsThat, UndoRefused, NotesAreShort}
 use Rattle.replay.proofs.Kept.{never-given, number-is}

@@ -11,7 +11,6 @@ use Rattle.rules.specs.Rules.{Sized, Rules}
 use Rattle.rules.specs.Tests.{keepsRules}
 use Rattle.calls.specs.Calls.{callOf}
 use Rattle.calls.specs.Refusals.{refusals}
-use Rattle.replay.specs.declared.step.Stepped.{Stepped}
 use Rattle.coding.specs.Logs.{room}
 use Rattle.notes.specs.Within.{Within}
 use Rattle.notes.specs.Counts.{mostBytes}
@@ -79,11 +78,15 @@ RunnerStaysInRegion =
     → 0 < called k bytes .kernel .unscheduled + called k bytes .kernel .critical
     → called k bytes .kernel .runner ≡ k .runner
 
--- Two results that the contract allows are equal.
+-- Two results that the contract allows are equal, and so are the two logs.
 unfoldable pub OneResult : Type 0
-OneResult = (k : Kernel) (bytes : List ℕ) (r s : Stepped) → r ≡ called k bytes → s ≡ called k bytes → r ≡ s
+OneResult =
+    (k : Kernel) (bytes log : List ℕ) (used : ℕ) (r s : Logged) (l m : List ℕ)
+    → (r ≡ calledWith k bytes log used) × (l ≡ logCalled k bytes log used)
+    → (s ≡ calledWith k bytes log used) × (m ≡ logCalled k bytes log used)
+    → (r ≡ s) × (l ≡ m)
 
--- ---- Demand 1 with a log: a call answers as it does without one, but for number 13.
+-- ---- Demand 1 with a log: a call answers as above, but for number 13.
 -- "13: the note is longer than the log's unused room", where no other number is given.
 unfoldable pub ThirteenExactly : Type 0
 ThirteenExactly =
@@ -91,7 +94,7 @@ ThirteenExactly =
     → (calledWith k bytes log used .answer .number ≡ 13)
     ↔ ((called k bytes .answer .number ≡ 0) × (room log used (noteFor k bytes) ≡ false))
 
--- Every other number as without a log.
+-- Every other answer, and its state, as above.
 unfoldable pub AnsweredAlike : Type 0
 AnsweredAlike =
     (k : Kernel) (bytes log : List ℕ) (used : ℕ) → (calledWith k bytes log used .answer .number ≡ 13 → ⊥)

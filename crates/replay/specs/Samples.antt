@@ -13,7 +13,6 @@ use Rattle.kernel.specs.Places.{semaphoreQueue}
 use Rattle.calls.specs.declared.call.Call.{Call}
 use Rattle.threads.specs.Parts.{withUptime}
 use Rattle.replay.specs.declared.step.Answer.{Answer}
-use Rattle.replay.specs.declared.step.Stepped.{Stepped}
 use Rattle.replay.specs.Steps.{answer, step}
 use Rattle.replay.specs.Logs.{recorded, logAfter, undone}
 

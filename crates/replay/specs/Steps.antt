@@ -11,11 +11,15 @@ use Rattle.threads.specs.Parts.{scheduled}
 use Rattle.effects.specs.Effects.{effect, valueOf}
 use Rattle.rules.specs.Tests.{keepsRules}
 use Rattle.replay.specs.declared.step.Answer.{Answer}
-use Rattle.replay.specs.declared.step.Stepped.{Stepped}
 
 -- "A number, a value (created id, message received at once, else 255), and who runs (255 for none)."
 abbrev pub answer : ℕ → ℕ → ℕ → Answer
 answer number value runner = record { number = number; value = value; runner = runner }
+
+-- what a call gives, whatever log it is given
+pub record Stepped : Type 0 where
+  pub answer : Answer
+  pub kernel : Kernel
 
 -- "A refusal gives value 255 and the runner as before", and the same state.
 abbrev pub refused : ℕ → Kernel → Stepped

@@ -13,7 +13,8 @@ use kernel::records::Kernel;
 use noting::note;
 use noting::note::MOST;
 
-// The answer, the next state (an undo: the earlier one), and how much of the log is used then.
+// The answer, the next state (an undo: the earlier one), and how much of the log is used then. The state comes first: behind three bytes
+// the compiler copies it once more.
 pub struct Logged {
     pub kernel: Kernel,
     pub answer: Answer,
