@@ -19,10 +19,10 @@ use Rattle.calls.proofs.TableOrder.{given-exactly, accepted-exactly as none-exa
 use Rattle.threads.specs.Parts.{scheduled}
 use Rattle.effects.specs.Effects.{effect}
 use Rattle.kept.proofs.Kept.{rules-kept}
-use Rattle.replay.specs.Steps.{Stepped, accepted, refused, step, called}
-use Rattle.replay.specs.Promises.{BrokenIsRefused, BrokenIsSame, RefusedExactly, AcceptedExactly, RefusalChangesNothing}
-use Rattle.replay.specs.Promises.{RulesAreKept, RunnerIsAnswered, FirstReadyRuns, RunnerStaysInRegion, OneResult}
-use Rattle.replay.proofs.RunnerStays.{effect-runner}
+use Rattle.answers.specs.Steps.{Stepped, accepted, refused, step, called}
+use Rattle.answers.specs.Promises.{BrokenIsRefused, BrokenIsSame, RefusedExactly, AcceptedExactly, RefusalChangesNothing}
+use Rattle.answers.specs.Promises.{RulesAreKept, RunnerIsAnswered, FirstReadyRuns, RunnerStaysInRegion, OneResult}
+use Rattle.answers.proofs.RunnerStays.{effect-runner}
 
 -- a number that no entry has, and that isn't 0, isn't given
 pub never-given : (n : ℕ) → 0 < n → (l : List (ℕ × Bool)) → lacks n l ≡ true → firstThatApplies l ≡ n → ⊥

@@ -22,11 +22,11 @@ use Rattle.notes.specs.Undoes.{undoes}
 use Rattle.notes.proofs.Lengths.{note-short}
 use Rattle.notes.proofs.Yields.{call-within}
 use Rattle.notes.proofs.Undoing.{state-found, last-sizes, yields-last, yields-undoes, undo-exactly}
-use Rattle.replay.specs.declared.logs.Logged.{Logged}
-use Rattle.replay.specs.Steps.{Stepped, answer, accepted, refused, step, called}
-use Rattle.replay.specs.Logs.{logged, nextOf, noteFor, recorded, logAfter, partAfter, calledWith, logCalled, partCalled, backAt, undone}
-use Rattle.replay.specs.Promises.{ThirteenExactly, AnsweredAlike, RefusalLeavesLog, UndoneExactly, UndoneIsThat, UndoRefused, NotesAreShort}
-use Rattle.replay.proofs.Kept.{never-given, number-is}
+use Rattle.answers.specs.declared.Logged.{Logged}
+use Rattle.answers.specs.Steps.{Stepped, answer, accepted, refused, step, called}
+use Rattle.answers.specs.Logs.{logged, nextOf, noteFor, recorded, logAfter, partAfter, calledWith, logCalled, partCalled, backAt, undone}
+use Rattle.answers.specs.Promises.{ThirteenExactly, AnsweredAlike, RefusalLeavesLog, UndoneExactly, UndoneIsThat, UndoRefused, NotesAreShort}
+use Rattle.answers.proofs.Kept.{never-given, number-is}
 
 never-13 : (k : Kernel) (c : Call) → numberOf k c ≡ 13 → ⊥
 unfolding numberOf

@@ -16,8 +16,8 @@ use Rattle.effects.specs.Effects.{valueOf}
 use Rattle.notes.proofs.FramesRead.{note-sizes}
 use Rattle.notes.specs.Spans.{noteIn}
 use Rattle.notes.proofs.SpansOfCalls.{note-in}
-use Rattle.replay.specs.Steps.{answer}
-use Rattle.replay.specs.Logs.{logged, nextOf, noteFor, recorded, logAfter}
+use Rattle.answers.specs.Steps.{answer}
+use Rattle.answers.specs.Logs.{logged, nextOf, noteFor, recorded, logAfter}
 
 module _ (k : Kernel) (bytes log : List ℕ) (used : ℕ) where
   pub ends-refused : (n : ℕ) → n ≡ numberOf k (callOf bytes) → (n ≡ 0 → ⊥)

@@ -7,8 +7,8 @@ use Rattle.queue.specs.Queues.{items}
 use Rattle.kernel.specs.Records.{thread}
 use Rattle.kernel.specs.Runner.{chosen, runnerOf}
 use Rattle.threads.specs.Parts.{withRunner, scheduled}
-use Rattle.replay.proofs.step.next_state.Statement.{statement}
-use Rattle.replay.proofs.step.next_state.Tie as tie
+use Rattle.recording.proofs.next_state.Statement.{statement}
+use Rattle.recording.proofs.next_state.Tie as tie
 
 effect-requires : tie.Need-effect-requires
 effect-requires c κs = search needs

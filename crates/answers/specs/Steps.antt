@@ -10,7 +10,7 @@ use Rattle.calls.specs.Refusals.{numberOf}
 use Rattle.threads.specs.Parts.{scheduled}
 use Rattle.effects.specs.Effects.{effect, valueOf}
 use Rattle.rules.specs.Tests.{keepsRules}
-use Rattle.replay.specs.declared.step.Answer.{Answer}
+use Rattle.answers.specs.declared.Answer.{Answer}
 
 -- "A number, a value (created id, message received at once, else 255), and who runs (255 for none)."
 abbrev pub answer : ℕ → ℕ → ℕ → Answer

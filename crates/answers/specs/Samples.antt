@@ -12,9 +12,9 @@ use Rattle.kernel.specs.Records.{fresh, semaphore, thread}
 use Rattle.kernel.specs.Places.{semaphoreQueue}
 use Rattle.calls.specs.declared.call.Call.{Call}
 use Rattle.threads.specs.Parts.{withUptime}
-use Rattle.replay.specs.declared.step.Answer.{Answer}
-use Rattle.replay.specs.Steps.{answer, step}
-use Rattle.replay.specs.Logs.{recorded, logAfter, undone}
+use Rattle.answers.specs.declared.Answer.{Answer}
+use Rattle.answers.specs.Steps.{answer, step}
+use Rattle.answers.specs.Logs.{recorded, logAfter, undone}
 
 abbrev pub sameAnswer : Answer → Answer → Bool
 sameAnswer x y = eqb (x .number) (y .number) && (eqb (x .value) (y .value) && eqb (x .runner) (y .runner))

@@ -13,9 +13,9 @@ use Rattle.effects.specs.Effects.{valueOf}
 use Rattle.notes.specs.Notes.{noteOf}
 use Rattle.notes.specs.Undo.{lastLength, lastNote}
 use Rattle.notes.specs.Undoes.{backFrom, undoes}
-use Rattle.replay.specs.declared.step.Answer.{Answer}
-use Rattle.replay.specs.declared.logs.Logged.{Logged}
-use Rattle.replay.specs.Steps.{answer, nextState}
+use Rattle.answers.specs.declared.Answer.{Answer}
+use Rattle.answers.specs.declared.Logged.{Logged}
+use Rattle.answers.specs.Steps.{answer, nextState}
 
 abbrev pub logged : Answer → Kernel → ℕ → Logged
 logged x k used = record { answer = x; kernel = k; used = used }

@@ -21,13 +21,13 @@ use Rattle.notes.specs.Undoes.{backFrom}
 use Rattle.notes.proofs.FramesRead.{last-back}
 use Rattle.notes.proofs.Yields.{yields-kept}
 use Rattle.notes.proofs.Undoing.{state-found}
-use Rattle.replay.specs.declared.logs.Logged.{Logged}
-use Rattle.replay.specs.Steps.{answer}
-use Rattle.replay.specs.Logs.{logged, nextOf, noteFor, undone}
-use Rattle.replay.specs.Runs.{IsRecord, AreRecords, Noted, Trail, trailed, trail, backTimes, stateAt}
-use Rattle.replay.specs.Runs.{Point, Run, begun, next, run, undoneTimes}
-use Rattle.replay.specs.Promises.{UndoneIsThat, NotesLeadBack, LogLeadsBack}
-use Rattle.replay.proofs.WithLogs.{one-of-three, undone-is-that}
+use Rattle.answers.specs.declared.Logged.{Logged}
+use Rattle.answers.specs.Steps.{answer}
+use Rattle.answers.specs.Logs.{logged, nextOf, noteFor, undone}
+use Rattle.answers.specs.Runs.{IsRecord, AreRecords, Noted, Trail, trailed, trail, backTimes, stateAt}
+use Rattle.answers.specs.Runs.{Point, Run, begun, next, run, undoneTimes}
+use Rattle.answers.specs.Promises.{UndoneIsThat, NotesLeadBack, LogLeadsBack}
+use Rattle.answers.proofs.WithLogs.{one-of-three, undone-is-that}
 
 -- what every state of a run is
 abbrev Kept : Kernel → Type 0

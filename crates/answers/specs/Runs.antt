@@ -9,9 +9,9 @@ use Rattle.kernel.specs.declared.records.Kernel.{Kernel}
 use Rattle.calls.specs.Calls.{callOf}
 use Rattle.calls.specs.Refusals.{numberOf}
 use Rattle.notes.specs.Undoes.{backFrom}
-use Rattle.replay.specs.declared.logs.Logged.{Logged}
-use Rattle.replay.specs.Steps.{answer}
-use Rattle.replay.specs.Logs.{logged, nextOf, noteFor, recorded, logAfter, undone}
+use Rattle.answers.specs.declared.Logged.{Logged}
+use Rattle.answers.specs.Steps.{answer}
+use Rattle.answers.specs.Logs.{logged, nextOf, noteFor, recorded, logAfter, undone}
 
 -- sixteen bytes
 abbrev pub IsRecord : List ℕ → Type 0

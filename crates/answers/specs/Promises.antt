@@ -15,10 +15,10 @@ use Rattle.coding.specs.Logs.{room}
 use Rattle.notes.specs.Within.{Within}
 use Rattle.notes.specs.Counts.{mostBytes}
 use Rattle.notes.specs.Undo.{lastNote, Yields}
-use Rattle.replay.specs.declared.logs.Logged.{Logged}
-use Rattle.replay.specs.Steps.{answer, called}
-use Rattle.replay.specs.Logs.{logged, nextOf, noteFor, calledWith, logCalled, partCalled, undone}
-use Rattle.replay.specs.Runs.{AreRecords, trail, backTimes, stateAt, begun, run, undoneTimes, pointAt}
+use Rattle.answers.specs.declared.Logged.{Logged}
+use Rattle.answers.specs.Steps.{answer, called}
+use Rattle.answers.specs.Logs.{logged, nextOf, noteFor, calledWith, logCalled, partCalled, undone}
+use Rattle.answers.specs.Runs.{AreRecords, trail, backTimes, stateAt, begun, run, undoneTimes, pointAt}
 
 -- ---- Demand 1: "Any sixteen bytes may arrive as a call, with any state. Each is answered."
 -- Number 14 exactly where the state breaks a state rule; it gives 255 for both, and the same state.

@@ -34,9 +34,9 @@ use Rattle.notes.specs.Back.{putBackAll, readThreads, threadsBefore, readSemaph
 use Rattle.notes.specs.Undo.{lastLength, hasLast, lastNote}
 use Rattle.notes.specs.Same.{sameQueue, sameNumbers, sameKernel}
 use Rattle.notes.specs.Undoes.{recordIn, backFrom, levelsFit, yieldsAgain, undoesNote, undoes}
-use Rattle.replay.specs.Steps.{step}
-use Rattle.replay.specs.Logs.{noteFor, recorded, logAfter, undone}
-use Rattle.replay.specs.Samples.{all, samples}
+use Rattle.answers.specs.Steps.{step}
+use Rattle.answers.specs.Logs.{noteFor, recorded, logAfter, undone}
+use Rattle.answers.specs.Samples.{all, samples}
 
 pub samples-hold : all samples ≡ true
 unfolding fresh step isPlaced moved homeOf rankOf streamOf relocate repost chosen isTrue bitAt everyBelow someBelow allMatch anyMatch nextOf rowOf isKnown unusedAreZero fromInterrupt fromThread unknown interruptsOff noCaller badNumber badId isInChannel notOwner hasWaiters notPeriodic popsNothing stopsCaller blocksInRegion noneFree numberOf scheduled block wake createThread yielded sleep pushUnscheduled pushCritical createSemaphore pendSemaphore post postSemaphore timeUp due ageAll timePasses pulse pulseFrom tick effect valueOf callOf le un flagsOf bodyOf rowFrom usedBy noted isTidy isNoThread isNoSemaphore isNoMessage conditionKept liveThreadKept threadKept liveSemaphoreKept semaphoreKept liveMessageKept messageKept threadsKept semaphoresKept messagesKept inRank inTime inStream placesKept timeKept postedKept runnerKept keepsRules conditionFrom wakeFrom threadFrom semaphoreFrom eventFrom messageFrom sameThread sameSemaphore sameEvent sameMessage youngerThread youngerSemaphore touchedThread touchedSemaphore touchedEvent touchedMessage predictedThread predictedSemaphore predictedMessage predictedScheduler threadEntry semaphoreEntry eventEntry messageEntry threadsSection semaphoresSection eventsSection messagesSection schedulerSection front noteOf isWhole firstSection behindSection framesFrom framesOf putBackAll readThreads threadsBefore readSemaphores semaphoresBefore readEvents bitsBefore eventsBefore readMessages messagesBefore schedulerBefore before stateBefore lastLength hasLast lastNote sameQueue sameNumbers sameKernel recordIn backFrom levelsFit yieldsAgain undoesNote undoes noteFor recorded logAfter undone

@@ -14,11 +14,11 @@ use Rattle.notes.specs.Spans.{frontIn, noteIn}
 use Rattle.noting.proofs.Fronts.{front-puts, front-closed, note-short}
 use Rattle.noting.proofs.Sizes.{composed}
 use Rattle.noting.proofs.Waiters.{waiter-found}
-use Rattle.replay.specs.Steps.{nextState}
-use Rattle.replay.proofs.Numbers.{number-by, value-by}
-use Rattle.replay.proofs.Recording.{ends-refused, Left, left}
-use Rattle.replay.proofs.logs.recorded.Statement.{statement}
-use Rattle.replay.proofs.logs.recorded.Tie as tie
+use Rattle.answers.specs.Steps.{nextState}
+use Rattle.recording.proofs.Numbers.{number-by, value-by}
+use Rattle.recording.proofs.Recording.{ends-refused, Left, left}
+use Rattle.recording.proofs.recorded.Statement.{statement}
+use Rattle.recording.proofs.recorded.Tie as tie
 
 call-of-requires : tie.Need-call-of-requires
 call-of-requires c κs = search needs
