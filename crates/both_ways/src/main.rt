@@ -1,10 +1,9 @@
 // Both ways: records from standard input to its end, a line each, with all notes in one log; then every note undone, a line
 // each, the uptime, and whether the state is the fresh one again.
+use answers::Answer;
 use coding::pens;
 use kernel::records::Kernel;
 use reading::last;
-use replay::logs;
-use replay::step::Answer;
 use replay::undos;
 
 // Where a run stands: its state, how much of the log is used, the records seen so far, and the end of the text for the last ones.
@@ -59,7 +58,7 @@ fn grown(before: usize, after: usize) -> usize {
 // One record more. The fresh state keeps its rules, and so does every state after it, so that no call tests them again.
 fn next(run: Run, bytes: [u8; 16], out: &mut [u8], log: &mut [u8]) -> Run {
     let k = run.kernel;
-    let l = logs::recorded(k, bytes, log, run.used);
+    let l = recording::recorded(k, bytes, log, run.used);
     let n = std::num::wrapping_add_u64(run.serial, 1);
     let end = put_line(out, run.end, n, l.answer, grown(run.used, l.used));
     let state = l.kernel;

@@ -20,14 +20,14 @@
 // three times for each record. Every full, short and beyond is refused. How many of the others are accepted is not known from
 // outside: a flipped byte may be an old value that some other state had, and where the last note is missing, the one before it may be
 // undone from the later state. The last line has all wrong ones; it must be 0.
+use answers::Answer;
+use answers::Logged;
 use coding::bytes::byte_at;
 use coding::bytes::same_bytes;
 use coding::pens;
 use kernel::records::Kernel;
 use reading::last;
 use replay::logs;
-use replay::logs::Logged;
-use replay::step::Answer;
 use replay::undos;
 
 // The trials of one kind.

@@ -1,6 +1,5 @@
 // The bytes of notes: records from standard input to its end, with all notes in one log, whose used part is the output.
 use kernel::records;
-use replay::logs;
 
 // The used part of the log.
 fn print(log: &[u8], used: usize) {
@@ -21,7 +20,7 @@ fn all_forward(log: &mut [u8; 1048576]) {
         if n < 16 {
             return print(log, used);
         }
-        let l = logs::recorded(k, bytes, log, used);
+        let l = recording::recorded(k, bytes, log, used);
         k = l.kernel;
         used = l.used;
         turns -= 1;

@@ -1,9 +1,8 @@
 // Document 01's printed replay: records from standard input to its end, a line each, then the uptime.
+use answers::Answer;
 use coding::pens;
 use kernel::records::Kernel;
 use reading::last;
-use replay::logs;
-use replay::step::Answer;
 
 // Where a run stands: its state, the records seen so far, and the end of the text written for the last ones.
 struct Run {
@@ -50,7 +49,7 @@ fn replayed(k: Kernel, serial: u64, s: &[u8], out: &mut [u8]) -> Run {
     };
     let mut at: usize = 0;
     while 16 <= s.len() - at {
-        let l = logs::recorded(run.kernel, last::record_in(&s[at..]), &mut log, 0);
+        let l = recording::recorded(run.kernel, last::record_in(&s[at..]), &mut log, 0);
         let n = std::num::wrapping_add_u64(run.serial, 1);
         let end = put_line(out, run.end, n, l.answer);
         let state = l.kernel;

@@ -27,9 +27,9 @@ use Rattle.notes.proofs.SpansOfCalls.{note-in}
 use Rattle.noting.proofs.Fronts.{note-short}
 use Rattle.reading.specs.declared.state_back.Back.{Back}
 use Rattle.reading.specs.Restored.{backOf}
-use Rattle.replay.specs.declared.logs.Logged.{Logged}
-use Rattle.replay.specs.Steps.{answer}
-use Rattle.replay.specs.Logs.{logged, nextOf, noteFor, recorded, logAfter, undone}
+use Rattle.answers.specs.declared.Logged.{Logged}
+use Rattle.answers.specs.Steps.{answer}
+use Rattle.answers.specs.Logs.{logged, nextOf, noteFor, recorded, logAfter, undone}
 
 -- The call run again on a log of 2,048 bytes, which has room for any note: s is what comes back.
 module _ (k : Kernel) (bytes : List ℕ) (sixteen : length bytes ≡ 16) (all : length (k .threads) ≡ 32) (s : Logged) (e : s ≡ recorded k bytes (replicate 2048 0) 0) where

@@ -1,11 +1,4 @@
--- The promises kept, and the sample runs.
-pub mod Kept
-pub mod RunnerStays
-pub mod WithLogs
-pub mod LeadsBack
-pub mod SamplesHold
-pub mod Recording
+-- Why the code of the public entries meets its definitions.
 pub mod Parts
-pub mod Numbers
 pub mod Compared
 pub mod Again

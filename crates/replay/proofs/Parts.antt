@@ -13,7 +13,7 @@ use Rattle.kernel.specs.declared.records.Kernel.{Kernel}
 use Rattle.rules.specs.Tests.{keepsRules}
 use Rattle.calls.specs.Calls.{callOf}
 use Rattle.calls.specs.Refusals.{numberOf}
-use Rattle.replay.specs.Logs.{noteFor, recorded, logAfter, partAfter, calledWith, logCalled, partCalled}
+use Rattle.answers.specs.Logs.{noteFor, recorded, logAfter, partAfter, calledWith, logCalled, partCalled}
 
 module _ (k : Kernel) (bytes log : List ℕ) (used : ℕ) where
   -- either a note was written, or nothing

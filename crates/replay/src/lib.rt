@@ -1,4 +1,3 @@
-// The public face: a call on a state, with or without a log, and the undo.
+// The public face: a call on a state with a log, and the undo.
 pub mod logs;
-pub mod step;
 pub mod undos;

@@ -2,11 +2,10 @@
 ghost use mathlib.Core.Path.{_≡_};
 ghost use mathlib.Core.Bool.{true, cond};
 ghost use Rattle.notes.specs.Undoes.{backFrom, levelsFit, yieldsAgain, undoesNote};
-ghost use Rattle.replay.specs.Steps.{answer};
-ghost use Rattle.replay.specs.Logs.{logged, undone};
-use crate::logs;
-use crate::logs::Logged;
-use crate::step::Answer;
+ghost use Rattle.answers.specs.Steps.{answer};
+ghost use Rattle.answers.specs.Logs.{logged, undone};
+use answers::Answer;
+use answers::Logged;
 use calls::call;
 use coding::bytes::same_bytes;
 use kernel::records::Kernel;
@@ -15,6 +14,8 @@ use reading::frames;
 use reading::frames::Decoded;
 use reading::last;
 use reading::state_back;
+use recording::recorded;
+use recording::refused;
 
 // Whether the state, with the call run again, yields the end state and the note.
 fn yields_again(old: Kernel, bytes: [u8; 16], end: Kernel, note: &[u8]) -> bool
@@ -24,7 +25,7 @@ fn yields_again(old: Kernel, bytes: [u8; 16], end: Kernel, note: &[u8]) -> bool
         return false;
     }
     let mut again = [0u8; MOST];
-    let l = logs::recorded(old, bytes, &mut again, 0);
+    let l = recorded(old, bytes, &mut again, 0);
     if l.answer.number != 0 {
         return false;
     }
@@ -44,16 +45,16 @@ fn undo_note(k: Kernel, note: &[u8], before: usize, used: usize) -> Logged
     ensures { λ r. ⌜ r ≡ cond (undoesNote k (now (note .entry))) (logged (answer 0 255 (backFrom k (now (note .entry)) .runner)) (backFrom k (now (note .entry))) before) (logged (answer 15 255 (k .runner)) k used) ⌝ }
 {
     let Decoded::Sections(f) = frames::frames_of(note) else {
-        return logs::refused(15, k.runner, k, used);
+        return refused(15, k.runner, k, used);
     };
     let bytes = last::record_in(note);
     let back = state_back::state_before(call::call_of(bytes), k, note, f);
     if !back.fits {
-        return logs::refused(15, k.runner, k, used);
+        return refused(15, k.runner, k, used);
     }
     let kernel = back.kernel;
     if !yields_again(kernel, bytes, k, note) {
-        return logs::refused(15, k.runner, k, used);
+        return refused(15, k.runner, k, used);
     }
     Logged {
         answer: Answer {
@@ -71,10 +72,10 @@ pub fn undo(k: Kernel, log: &[u8], used: usize) -> Logged
     ensures { λ r. ⌜ r ≡ undone k (now (log .entry)) used ⌝ }
 {
     if !tested::keeps_rules(k) {
-        return logs::refused(14, 255, k, used);
+        return refused(14, 255, k, used);
     }
     if !last::has_last(log, used) {
-        return logs::refused(15, k.runner, k, used);
+        return refused(15, k.runner, k, used);
     }
     let before = used - last::last_length(log, used);
     undo_note(k, &log[before..used], before, used)

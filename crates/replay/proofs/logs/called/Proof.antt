@@ -3,7 +3,7 @@ use mathlib.Core.Bool.{true, false}
 use borrow.Author.Needs.{needs}
 use borrow.Author.Tests.{not-true, not-false}
 use Rattle.rules.specs.Tests.{keepsRules}
-use Rattle.replay.specs.Logs.{calledWith, logCalled}
+use Rattle.answers.specs.Logs.{calledWith, logCalled}
 use Rattle.replay.proofs.logs.called.Statement.{statement}
 use Rattle.replay.proofs.logs.called.Tie as tie
 

@@ -4,7 +4,7 @@ use borrow.Author.Tests.{not-true, not-false}
 use Rattle.rules.specs.Tests.{keepsRules}
 use Rattle.notes.specs.Undo.{hasLast}
 use Rattle.notes.specs.Undoes.{undoes}
-use Rattle.replay.specs.Logs.{undone}
+use Rattle.answers.specs.Logs.{undone}
 use Rattle.replay.proofs.Again.{last-within, undone-part}
 use borrow.Author.Needs.{needs}
 use Rattle.replay.proofs.undos.undo.Statement.{statement}

@@ -13,8 +13,8 @@ use Rattle.reading.specs.declared.frames.Decoded.{Decoded}
 use Rattle.reading.specs.Meant.{sectionsMeant, meant}
 use Rattle.reading.specs.Restored.{backOf}
 use Rattle.reading.proofs.Framing.{record-whole}
-use Rattle.replay.specs.Steps.{answer}
-use Rattle.replay.specs.Logs.{logged}
+use Rattle.answers.specs.Steps.{answer}
+use Rattle.answers.specs.Logs.{logged}
 use Rattle.replay.proofs.Again.{note-none, framed-size, left-other, left-unfit, left-back, back-parts}
 use borrow.Author.Needs.{needs}
 use Rattle.replay.proofs.undos.undo_note.Statement.{statement}

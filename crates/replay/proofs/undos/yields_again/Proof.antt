@@ -10,7 +10,7 @@ use Rattle.kernel.specs.declared.records.Kernel.{Kernel}
 use Rattle.rules.specs.Tests.{keepsRules}
 use Rattle.calls.specs.Calls.{callOf}
 use Rattle.calls.specs.Refusals.{numberOf}
-use Rattle.replay.specs.Logs.{nextOf, noteFor}
+use Rattle.answers.specs.Logs.{nextOf, noteFor}
 use Rattle.replay.proofs.Again.{run-refused, run-accepted, run-next, note-stands, again-broken, again-refused, again-other, again-note}
 use Rattle.replay.proofs.Compared.{begins-same, other-length}
 use Rattle.replay.proofs.undos.yields_again.Statement.{statement}

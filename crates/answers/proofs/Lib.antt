@@ -1,0 +1,6 @@
+-- The promises kept, and the sample runs.
+pub mod Kept
+pub mod RunnerStays
+pub mod WithLogs
+pub mod LeadsBack
+pub mod SamplesHold
