@@ -1,5 +1,5 @@
 -- Laws on pens: what several writers write together, and what a log holds that had room for it.
-use Prim.Native.Nat.{ℕ, suc, _+_, _≤_}
+use Prim.Native.Nat.{ℕ, suc, _+_, _-_, _≤_, _<_, min}
 use mathlib.Core.Path.{_≡_, refl, ap, _∙_}
 use mathlib.Core.List.{List, [], _∷_, _++_, append-assoc}
 use mathlib.Core.Bool.{Bool, true, false, cond}
@@ -7,9 +7,10 @@ use native.Mathlib.Nat.{zero-add}
 use native.Mathlib.Numerals.{add-one}
 use native.Mathlib.Omega.{arith}
 use lib.Dec.{ltb}
-use lib.ListN.{length, take, drop, set, length-set}
-use lib.Seq.{sets, sets-eq, take-append-seam}
-use borrow.Author.Tests.{lt-ltb, ltb-true}
+use lib.ListN.{length, take, drop, set, getD, length-set, drop-of-length-le}
+use lib.Seq.{sets, sets-eq, take-append-seam, drop-cons}
+use borrow.Author.Tests.{lt-ltb, le-ltb, ltb-true, ltb-false}
+use borrow.Table.Steps.{cases}
 use Rattle.coding.specs.Pens.{Pen, pen, put, puts}
 
 -- One list behind another is what the second pen writes behind the first.
@@ -43,6 +44,30 @@ puts-within p (b ∷ bytes) h = go (ltb (p .at) (length (p .log))) refl (puts-wi
         let l : p .at + 1 ≤ length (p .log) = omega (arith, ltb-true (p .at) (length (p .log)) e) in
         rw length-set at (r (rw length-set l))
     go false e r = r h
+
+-- A full log takes nothing.
+pub puts-full : (l : List ℕ) (k : ℕ) (bytes : List ℕ) → length l ≤ k → puts (pen l k) bytes ≡ pen l k
+unfolding puts put
+puts-full l k [] h = refl
+puts-full l k (b ∷ bytes) h = rw (le-ltb k (length l) h) (puts-full l k bytes h)
+
+-- Of several bytes from place k on: one more,
+pub puts-next : (l : List ℕ) (k i : ℕ) (bytes : List ℕ) → k + i < length l → i < length bytes
+    → puts (pen l (k + i)) (drop i bytes) ≡ puts (pen (set l (k + i) (getD bytes i 0)) (k + (i + 1))) (drop (i + 1) bytes)
+unfolding puts put
+puts-next l k i bytes room more =
+    let m = set l (k + i) (getD bytes i 0) in
+    let e : k + i + 1 ≡ k + (i + 1) = omega arith in
+    let one : put (pen l (k + i)) (getD bytes i 0) ≡ pen m (k + i + 1) = rw (lt-ltb (k + i) (length l) room) in
+    let f : suc i ≡ i + 1 = omega arith in
+    ap (puts (pen l (k + i))) (drop-cons bytes i 0 more) ∙ ap (λ p. puts p (drop (suc i) bytes)) one ∙ ap (λ p. puts (pen m p) (drop (suc i) bytes)) e ∙ ap (λ n. puts (pen m (k + (i + 1))) (drop n bytes)) f
+
+-- and no more, where the bytes or the log end.
+pub puts-end : (l : List ℕ) (k i : ℕ) (bytes : List ℕ) → min (length bytes) (length l - k) ≤ i → puts (pen l (k + i)) (drop i bytes) ≡ pen l (k + i)
+unfolding puts
+puts-end l k i bytes h =
+    cases (ltb i (length bytes)) (λ e. puts-full l (k + i) (drop i bytes) (omega (arith, h, ltb-true i (length bytes) e)))
+    (λ e. rw (drop-of-length-le bytes (ltb-false i (length bytes) e)))
 
 -- With room, all of it is written.
 puts-sets : (l : List ℕ) (k : ℕ) (bytes : List ℕ) → k + length bytes ≤ length l → puts (pen l k) bytes ≡ pen (sets l k bytes) (k + length bytes)

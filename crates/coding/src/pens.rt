@@ -2,6 +2,7 @@
 ghost use mathlib.Core.Path.{_≡_};
 ghost use Rattle.coding.specs.Bytes.{le};
 ghost use Rattle.coding.specs.Pens.{pen, put, puts};
+use crate::bytes::least;
 
 // One byte.
 pub fn put_byte(log: &mut [u8], at: usize, b: u8) -> usize
@@ -29,15 +30,18 @@ pub fn put_number(log: &mut [u8], at: usize, w: usize, x: u32) -> usize
     p
 }
 
-// Bytes as they stand.
+// Bytes as they stand. How many there is room for is found out first: the loop then copies, and tests nothing.
 pub fn put_all(log: &mut [u8], at: usize, bytes: &[u8]) -> usize
     ensures { λ r. ⌜ pen (now (log .exit)) r ≡ puts (pen (now (log .entry)) at) (now (bytes .entry)) ⌝ }
 {
-    let mut p = at;
+    if log.len() <= at {
+        return at;
+    }
+    let n = least(bytes.len(), log.len() - at);
     let mut i: usize = 0;
-    while i < bytes.len() {
-        p = put_byte(log, p, bytes[i]);
+    while i < n {
+        log[at + i] = bytes[i];
         i += 1;
     }
-    p
+    at + n
 }

@@ -3,7 +3,6 @@
 use kernel::records;
 use kernel::records::Kernel;
 use reading::last;
-use replay::logs;
 
 // The accepted calls and the bytes of their notes, of one round or of all so far.
 struct Total {
@@ -25,7 +24,7 @@ fn round(fresh: Kernel, s: &[u8], log: &mut [u8]) -> Total {
     let mut accepted: u64 = 0;
     let mut at: usize = 0;
     while 16 <= s.len() - at {
-        let l = logs::recorded(k, last::record_in(&s[at..]), log, used);
+        let l = recording::recorded(k, last::record_in(&s[at..]), log, used);
         k = l.kernel;
         used = l.used;
         accepted = std::num::wrapping_add_u64(accepted, one_if(l.answer.number == 0));

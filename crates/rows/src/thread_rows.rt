@@ -266,13 +266,31 @@ pub fn younger(c: Call, r: Thread) -> Thread
     }
 }
 
+// Field by field, and not by rows: at a tick every thread is compared.
 pub fn same(r: Thread, s: Thread) -> bool
     ensures { λ b. ⌜ b ≡ sameThread r s ⌝ }
 {
     if code_of(r) != code_of(s) {
         return false;
     }
-    let old = row_of(r, 0, 0).fields;
-    let new = row_of(s, 0, 0).fields;
-    row_bytes::flags_of(old, new) == 0
+    if r.priority != s.priority {
+        return false;
+    }
+    if r.first != s.first {
+        return false;
+    }
+    let condition = r.condition;
+    let other = s.condition;
+    if data_of(condition) != data_of(other) {
+        return false;
+    }
+    if r.ticks != s.ticks {
+        return false;
+    }
+    let wake = r.wake;
+    let reason = s.wake;
+    if wake_code(wake) != wake_code(reason) {
+        return false;
+    }
+    r.reply == s.reply
 }

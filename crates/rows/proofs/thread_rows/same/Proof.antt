@@ -1,10 +1,8 @@
--- `rows::thread_rows::same` meets its contract: two rows are the same where none of their fields is flagged.
-use mathlib.Core.Path.{refl}
+-- `rows::thread_rows::same` meets its contract: the first field that differs decides.
+use mathlib.Core.Bool.{and-true}
 use borrow.Author.Needs.{needs}
 use borrow.Author.Tests.{eq-eqb, ne-eqb}
 use Rattle.notes.specs.Touched.{sameThread}
-use Rattle.notes.specs.Rows.{threadRow}
-use Rattle.rows.proofs.Fields.{same-flags}
 use Rattle.rows.proofs.thread_rows.same.Statement.{statement}
 use Rattle.rows.proofs.thread_rows.same.Tie as tie
 
@@ -17,29 +15,110 @@ code-of-requires-2 c κs = search needs
 returns : tie.Need-returns
 unfolding sameThread
 returns c =
-    let e = c .before .before .code-of .ensures in
-    let f = c .before .code-of2 .ensures in
-    let n = ne-eqb _ _ (c .if1 .taken) in
-    rw (← e, ← f, n)
-
-row-of-requires : tie.Need-row-of-requires
-row-of-requires c κs = search needs
-
-row-of-requires-2 : tie.Need-row-of-requires-2
-row-of-requires-2 c κs = search needs
-
-flags-of-requires : tie.Need-flags-of-requires
-flags-of-requires c κs = search needs
+    rw (
+      ← c .before .before .code-of .ensures,
+      ← c .before .code-of2 .ensures,
+      ne-eqb _ _ (c .if1 .taken),
+    )
 
 returns-2 : tie.Need-returns-2
 unfolding sameThread
 returns-2 c =
-    let d = c .before .before .before .before .before in
-    let a = d .before .before .before .args in
-    let e = d .before .before .code-of .ensures in
-    let f = d .before .code-of2 .ensures in
-    rw (← e, ← f, eq-eqb _ _ (d .if1 .left), c .flags-of .ensures, c .before .before .before .before .row-of .ensures, c .before .before .row-of2 .ensures)
-    (same-flags (threadRow (a .r) 0 0) (threadRow (a .s) 0 0) refl)
+    rw (
+      ← c .before .before .before .before .before .code-of .ensures,
+      ← c .before .before .before .before .code-of2 .ensures,
+      eq-eqb _ _ (c .before .before .before .if1 .left),
+      ne-eqb _ _ (c .if2 .taken),
+    )
+
+returns-3 : tie.Need-returns-3
+unfolding sameThread
+returns-3 c =
+    rw (
+      ← c .before .before .before .before .before .before .before .before .code-of .ensures,
+      ← c .before .before .before .before .before .before .before .code-of2 .ensures,
+      eq-eqb _ _ (c .before .before .before .before .before .before .if1 .left),
+      eq-eqb _ _ (c .before .before .before .if2 .left),
+      ne-eqb _ _ (c .if3 .taken),
+    )
+
+data-of-requires : tie.Need-data-of-requires
+data-of-requires c κs = search needs
+
+data-of-requires-2 : tie.Need-data-of-requires-2
+data-of-requires-2 c κs = search needs
+
+returns-4 : tie.Need-returns-4
+unfolding sameThread
+returns-4 c =
+    rw (
+      ← c .before .before .before .before .before .before .before .before .before .before .before .code-of .ensures,
+      ← c .before .before .before .before .before .before .before .before .before .before .code-of2 .ensures,
+      eq-eqb _ _ (c .before .before .before .before .before .before .before .before .before .if1 .left),
+      eq-eqb _ _ (c .before .before .before .before .before .before .if2 .left),
+      eq-eqb _ _ (c .before .before .before .if3 .left),
+      ← c .before .before .data-of .ensures,
+      ← c .before .data-of2 .ensures,
+      ne-eqb _ _ (c .if4 .taken),
+    )
+
+returns-5 : tie.Need-returns-5
+unfolding sameThread
+returns-5 c =
+    rw (
+      ← c .before .before .before .before .before .before .before .before .before .before .before .before .before .before .code-of .ensures,
+      ← c .before .before .before .before .before .before .before .before .before .before .before .before .before .code-of2 .ensures,
+      eq-eqb _ _ (c .before .before .before .before .before .before .before .before .before .before .before .before .if1 .left),
+      eq-eqb _ _ (c .before .before .before .before .before .before .before .before .before .if2 .left),
+      eq-eqb _ _ (c .before .before .before .before .before .before .if3 .left),
+      ← c .before .before .before .before .before .data-of .ensures,
+      ← c .before .before .before .before .data-of2 .ensures,
+      eq-eqb _ _ (c .before .before .before .if4 .left),
+      ne-eqb _ _ (c .if5 .taken),
+    )
+
+wake-code-requires : tie.Need-wake-code-requires
+wake-code-requires c κs = search needs
+
+wake-code-requires-2 : tie.Need-wake-code-requires-2
+wake-code-requires-2 c κs = search needs
+
+returns-6 : tie.Need-returns-6
+unfolding sameThread
+returns-6 c =
+    rw (
+      ← c .before .before .before .before .before .before .before .before .before .before .before .before .before .before .before .before .before .code-of .ensures,
+      ← c .before .before .before .before .before .before .before .before .before .before .before .before .before .before .before .before .code-of2 .ensures,
+      eq-eqb _ _ (c .before .before .before .before .before .before .before .before .before .before .before .before .before .before .before .if1 .left),
+      eq-eqb _ _ (c .before .before .before .before .before .before .before .before .before .before .before .before .if2 .left),
+      eq-eqb _ _ (c .before .before .before .before .before .before .before .before .before .if3 .left),
+      ← c .before .before .before .before .before .before .before .before .data-of .ensures,
+      ← c .before .before .before .before .before .before .before .data-of2 .ensures,
+      eq-eqb _ _ (c .before .before .before .before .before .before .if4 .left),
+      eq-eqb _ _ (c .before .before .before .if5 .left),
+      ← c .before .before .wake-code .ensures,
+      ← c .before .wake-code2 .ensures,
+      ne-eqb _ _ (c .if6 .taken),
+    )
+
+returns-7 : tie.Need-returns-7
+unfolding sameThread
+returns-7 c =
+    rw (
+      ← c .before .before .before .before .before .before .before .before .before .before .before .before .before .before .before .before .before .before .before .code-of .ensures,
+      ← c .before .before .before .before .before .before .before .before .before .before .before .before .before .before .before .before .before .before .code-of2 .ensures,
+      eq-eqb _ _ (c .before .before .before .before .before .before .before .before .before .before .before .before .before .before .before .before .before .if1 .left),
+      eq-eqb _ _ (c .before .before .before .before .before .before .before .before .before .before .before .before .before .before .if2 .left),
+      eq-eqb _ _ (c .before .before .before .before .before .before .before .before .before .before .before .if3 .left),
+      ← c .before .before .before .before .before .before .before .before .before .before .data-of .ensures,
+      ← c .before .before .before .before .before .before .before .before .before .data-of2 .ensures,
+      eq-eqb _ _ (c .before .before .before .before .before .before .before .before .if4 .left),
+      eq-eqb _ _ (c .before .before .before .before .before .if5 .left),
+      ← c .before .before .before .before .wake-code .ensures,
+      ← c .before .before .before .wake-code2 .ensures,
+      eq-eqb _ _ (c .before .before .if6 .left),
+      and-true,
+    )
 
 pub same-spec : {M : Type 1} → statement M
 same-spec =
@@ -48,7 +127,13 @@ same-spec =
     code-of-requires
     code-of-requires-2
     returns
-    row-of-requires
-    row-of-requires-2
-    flags-of-requires
-    returns-2)
+    returns-2
+    returns-3
+    data-of-requires
+    data-of-requires-2
+    returns-4
+    returns-5
+    wake-code-requires
+    wake-code-requires-2
+    returns-6
+    returns-7)
