@@ -15,38 +15,19 @@ struct Run {
     end: usize,
 }
 
-// ---- lines of decimal numbers in a lent buffer; a full buffer drops what does not fit
-
-// The decimal digits of n, and then the byte that ends them.
-fn put_number(out: &mut [u8], at: usize, n: u64, end: u8) -> usize {
-    let mut digits = [0u8; 20];
-    let count = io::decimal(n, &mut digits);
-    let p = pens::put_all(out, at, &digits[..count]);
-    pens::put_byte(out, p, end)
-}
+// ---- the lines
 
 // The line of a call: serial, number, value, runner, and the length of its note.
-fn put_line(out: &mut [u8], at: usize, serial: u64, a: Answer, note: usize) -> usize {
-    let p = put_number(out, at, serial, b' ');
-    let q = put_number(out, p, a.number as u64, b' ');
-    let r = put_number(out, q, a.value as u64, b' ');
-    let s = put_number(out, r, a.runner as u64, b' ');
-    put_number(out, s, note as u64, b'\n')
+fn put_call(out: &mut [u8], at: usize, serial: u64, a: Answer, note: usize) -> usize {
+    let numbers = [serial, a.number as u64, a.value as u64, a.runner as u64, note as u64];
+    lines::put_line(out, at, &numbers)
 }
 
 // The line of an undo: number, runner, and the length of log that is left.
-fn put_back_line(out: &mut [u8], a: Answer, used: usize) -> usize {
+fn put_undo(out: &mut [u8], a: Answer, used: usize) -> usize {
     let p = pens::put_all(out, 0, b"back ");
-    let q = put_number(out, p, a.number as u64, b' ');
-    let r = put_number(out, q, a.runner as u64, b' ');
-    put_number(out, r, used as u64, b'\n')
-}
-
-// The text in front of `end`.
-fn print(out: &[u8], end: usize) {
-    if end <= out.len() {
-        io::write_all(1, &out[..end]);
-    }
+    let numbers = [a.number as u64, a.runner as u64, used as u64];
+    lines::put_line(out, p, &numbers)
 }
 
 // ---- forward
@@ -61,7 +42,7 @@ fn next(run: Run, bytes: [u8; 16], out: &mut [u8], log: &mut [u8]) -> Run {
     let k = run.kernel;
     let l = logs::recorded(k, bytes, log, run.used);
     let n = std::num::wrapping_add_u64(run.serial, 1);
-    let end = put_line(out, run.end, n, l.answer, grown(run.used, l.used));
+    let end = put_call(out, run.end, n, l.answer, grown(run.used, l.used));
     let state = l.kernel;
     Run {
         kernel: state,
@@ -108,7 +89,7 @@ fn all_forward(log: &mut [u8; 1048576]) -> Run {
         let n = io::read_full(0, &mut input);
         run = forward(run, &input[..n], &mut output, log);
         let end = run.end;
-        print(&output, end);
+        io::write_all(1, lines::front(&output, end));
         if n < 4096 {
             return run;
         }
@@ -128,8 +109,8 @@ fn backwards(k: Kernel, log: &[u8; 1048576], used: usize) -> Kernel {
         if l.answer.number != 0 {
             return l.kernel;
         }
-        let end = put_back_line(&mut out, l.answer, l.used);
-        print(&out, end);
+        let end = put_undo(&mut out, l.answer, l.used);
+        io::write_all(1, lines::front(&out, end));
         let state = l.kernel;
         l = undos::undo(state, log, l.used);
         turns -= 1;

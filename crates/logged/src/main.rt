@@ -2,13 +2,6 @@
 use kernel::records;
 use replay::logs;
 
-// The used part of the log.
-fn print(log: &[u8], used: usize) {
-    if used <= log.len() {
-        io::write_all(1, &log[..used]);
-    }
-}
-
 // A record at a time, from fresh; a shorter tail is dropped. The fresh state keeps its rules, and so does every state after it, so
 // that no call tests them again.
 fn all_forward(log: &mut [u8; 1048576]) {

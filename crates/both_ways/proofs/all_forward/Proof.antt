@@ -37,11 +37,14 @@ slice-aggregate-forward-2 c = search needs
 forward-requires : tie.Need-forward-requires Inv-loop μ-loop
 forward-requires c κs = search needs
 
-slice-aggregate-print : tie.Need-slice-aggregate-print Inv-loop μ-loop
-slice-aggregate-print c = search needs
+slice-aggregate-front : tie.Need-slice-aggregate-front Inv-loop μ-loop
+slice-aggregate-front c = search needs
 
-print-requires : tie.Need-print-requires Inv-loop μ-loop
-print-requires c κs = search needs
+front-requires : tie.Need-front-requires Inv-loop μ-loop
+front-requires c κs = search needs
+
+write-all-requires : tie.Need-write-all-requires Inv-loop μ-loop
+write-all-requires c κs = search needs
 
 returns : tie.Need-returns Inv-loop μ-loop
 returns c = search needs
@@ -73,8 +76,9 @@ all-forward-spec =
     slice-aggregate-forward
     slice-aggregate-forward-2
     forward-requires
-    slice-aggregate-print
-    print-requires
+    slice-aggregate-front
+    front-requires
+    write-all-requires
     returns
     sub-turns
     loop-less

@@ -37,11 +37,14 @@ slice-aggregate-replayed-2 c = search needs
 replayed-requires : tie.Need-replayed-requires Inv-loop μ-loop
 replayed-requires c κs = search needs
 
-slice-aggregate-print : tie.Need-slice-aggregate-print Inv-loop μ-loop
-slice-aggregate-print c = search needs
+slice-aggregate-front : tie.Need-slice-aggregate-front Inv-loop μ-loop
+slice-aggregate-front c = search needs
 
-print-requires : tie.Need-print-requires Inv-loop μ-loop
-print-requires c κs = search needs
+front-requires : tie.Need-front-requires Inv-loop μ-loop
+front-requires c κs = search needs
+
+write-all-requires : tie.Need-write-all-requires Inv-loop μ-loop
+write-all-requires c κs = search needs
 
 finished-requires : tie.Need-finished-requires Inv-loop μ-loop
 finished-requires c κs = search needs
@@ -79,8 +82,9 @@ main-spec =
     slice-aggregate-replayed
     slice-aggregate-replayed-2
     replayed-requires
-    slice-aggregate-print
-    print-requires
+    slice-aggregate-front
+    front-requires
+    write-all-requires
     finished-requires
     returns
     sub-turns

@@ -39,8 +39,8 @@ recorded-requires c κs = search needs
 wrapping-add-u64-requires : tie.Need-wrapping-add-u64-requires Inv-loop μ-loop
 wrapping-add-u64-requires c κs = search needs
 
-put-line-requires : tie.Need-put-line-requires Inv-loop μ-loop
-put-line-requires c κs = search needs
+put-answer-requires : tie.Need-put-answer-requires Inv-loop μ-loop
+put-answer-requires c κs = search needs
 
 add-at : tie.Need-add-at Inv-loop μ-loop
 add-at c = omega (arith, c .before .before .before .before .before .before .before .before .before .before .before .before .before .before .before .good)
@@ -72,7 +72,7 @@ replayed-spec =
     slice-aggregate-recorded
     recorded-requires
     wrapping-add-u64-requires
-    put-line-requires
+    put-answer-requires
     add-at
     loop-less
     loop-again
