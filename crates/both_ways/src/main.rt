@@ -7,12 +7,11 @@ use replay::logs;
 use replay::step::Answer;
 use replay::undos;
 
-// Where a run stands: its state, how much of the log is used, the records seen so far, and the end of the text for the last ones.
+// Where a run stands: its state, how much of the log is used, and the records seen so far.
 struct Run {
     kernel: Kernel,
     used: usize,
     serial: u64,
-    end: usize,
 }
 
 // ---- the lines
@@ -32,64 +31,42 @@ fn put_undo(out: &mut [u8], a: Answer, used: usize) -> usize {
 
 // ---- forward
 
-// From one used length to the next.
-fn grown(before: usize, after: usize) -> usize {
-    if after <= before { 0 } else { after - before }
-}
-
-// One record more. The fresh state keeps its rules, and so does every state after it, so that no call tests them again.
-fn next(run: Run, bytes: [u8; 16], out: &mut [u8], log: &mut [u8]) -> Run {
-    let k = run.kernel;
-    let l = logs::recorded(k, bytes, log, run.used);
-    let n = std::num::wrapping_add_u64(run.serial, 1);
-    let end = put_call(out, run.end, n, l.answer, grown(run.used, l.used));
-    let state = l.kernel;
-    Run {
-        kernel: state,
-        used: l.used,
-        serial: n,
-        end: end,
-    }
-}
-
-// The text before is printed.
-fn emptied(run: Run) -> Run {
-    let k = run.kernel;
-    Run {
-        kernel: k,
-        used: run.used,
-        serial: run.serial,
-        end: 0,
-    }
-}
-
-// The whole records of s; a shorter tail is dropped.
-fn forward(start: Run, s: &[u8], out: &mut [u8], log: &mut [u8]) -> Run {
-    let mut run = emptied(start);
+// The whole records of s, and their lines; a shorter tail is dropped. The fresh state keeps its rules, and so does every state after
+// it, so that no call tests them again. A call never shortens the used part of the log.
+fn forward(start: Run, s: &[u8], log: &mut [u8]) -> Run {
+    let mut out = [0u8; 16384];
+    let mut run = start;
+    let mut end: usize = 0;
     let mut at: usize = 0;
     while 16 <= s.len() - at {
-        run = next(run, last::record_in(&s[at..]), out, log);
+        let l = logs::recorded(run.kernel, last::record_in(&s[at..]), log, run.used);
+        let n = std::num::wrapping_add_u64(run.serial, 1);
+        let note = std::num::wrapping_sub_usize(l.used, run.used);
+        end = put_call(&mut out, end, n, l.answer, note);
+        let state = l.kernel;
+        run = Run {
+            kernel: state,
+            used: l.used,
+            serial: n,
+        };
         at += 16;
     }
+    io::write_all(1, lines::front(&out, end));
     run
 }
 
 // Standard input to its end, from fresh, in chunks.
 fn all_forward(log: &mut [u8; 1048576]) -> Run {
     let mut input = io::buffer();
-    let mut output = [0u8; 16384];
     let mut run = Run {
         kernel: kernel::records::fresh(),
         used: 0,
         serial: 0,
-        end: 0,
     };
     let mut turns: u64 = 18446744073709551615;
     while 0 < turns {
         let n = io::read_full(0, &mut input);
-        run = forward(run, &input[..n], &mut output, log);
-        let end = run.end;
-        io::write_all(1, lines::front(&output, end));
+        run = forward(run, &input[..n], log);
         if n < 4096 {
             return run;
         }
