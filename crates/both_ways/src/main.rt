@@ -18,7 +18,13 @@ struct Run {
 
 // The line of a call: serial, number, value, runner, and the length of its note.
 fn put_call(out: &mut [u8], at: usize, serial: u64, a: Answer, note: usize) -> usize {
-    let numbers = [serial, a.number as u64, a.value as u64, a.runner as u64, note as u64];
+    let numbers = [
+        serial,
+        a.number as u64,
+        a.value as u64,
+        a.runner as u64,
+        note as u64,
+    ];
     lines::put_line(out, at, &numbers)
 }
 

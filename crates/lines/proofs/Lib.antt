@@ -1,1 +1,1 @@
-pub mod Decimals
+pub mod Lines

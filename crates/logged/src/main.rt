@@ -12,14 +12,14 @@ fn all_forward(log: &mut [u8; 1048576]) {
     while 0 < turns {
         let n = io::read_full(0, &mut bytes);
         if n < 16 {
-            return print(log, used);
+            break;
         }
         let l = logs::recorded(k, bytes, log, used);
         k = l.kernel;
         used = l.used;
         turns -= 1;
     }
-    print(log, used)
+    io::write_all(1, lines::front(log, used));
 }
 
 fn main() {

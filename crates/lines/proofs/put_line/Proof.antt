@@ -7,7 +7,7 @@ use borrow.Author.Needs.{needs}
 use Rattle.coding.specs.Pens.{pen, puts}
 use Rattle.coding.proofs.Writing.{puts-append}
 use Rattle.lines.specs.Lines.{line}
-use Rattle.lines.proofs.Decimals.{line-next}
+use Rattle.lines.proofs.Lines.{line-next}
 use Rattle.lines.proofs.put_line.Statement.{statement}
 use Rattle.lines.proofs.put_line.Tie as tie
 

@@ -7,7 +7,7 @@ use borrow.Author.Needs.{needs}
 use Rattle.coding.specs.Pens.{Pen, pen, put, puts}
 use Rattle.coding.proofs.Writing.{puts-append}
 use Rattle.lines.specs.Lines.{decimal}
-use Rattle.lines.proofs.Decimals.{spelt}
+use Rattle.lines.proofs.Lines.{spelt}
 use Rattle.lines.proofs.put_number.Statement.{statement}
 use Rattle.lines.proofs.put_number.Tie as tie
 

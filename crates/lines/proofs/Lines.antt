@@ -1,6 +1,6 @@
--- The fewest decimal digits that hold a number are its decimal digits; and what one number adds to a line.
+-- Laws on lines: the fewest decimal digits that hold a number are its decimal digits, and what one number adds to a line.
 use Prim.Native.Nat.{ℕ, zero, suc, _+_, _-_, _*_, _/_, _%_, _^_, _≤_, _<_}
-use mathlib.Core.Path.{_≡_, refl, _∙_}
+use mathlib.Core.Path.{_≡_, refl}
 use mathlib.Core.List.{List, [], _∷_, _++_, append-assoc}
 use mathlib.Core.Bool.{Bool, true, false, cond}
 use mathlib.Core.Logic.{⊎-elim}
