@@ -6,108 +6,72 @@ use kernel::records::Kernel;
 use reading::last;
 use replay::undos;
 
-// Where a run stands: its state, how much of the log is used, the records seen so far, and the end of the text for the last ones.
+// Where a run stands: its state, how much of the log is used, and the records seen so far.
 struct Run {
     kernel: Kernel,
     used: usize,
     serial: u64,
-    end: usize,
 }
 
-// ---- lines of decimal numbers in a lent buffer; a full buffer drops what does not fit
-
-// The decimal digits of n, and then the byte that ends them.
-fn put_number(out: &mut [u8], at: usize, n: u64, end: u8) -> usize {
-    let mut digits = [0u8; 20];
-    let count = io::decimal(n, &mut digits);
-    let p = pens::put_all(out, at, &digits[..count]);
-    pens::put_byte(out, p, end)
-}
+// ---- the lines
 
 // The line of a call: serial, number, value, runner, and the length of its note.
-fn put_line(out: &mut [u8], at: usize, serial: u64, a: Answer, note: usize) -> usize {
-    let p = put_number(out, at, serial, b' ');
-    let q = put_number(out, p, a.number as u64, b' ');
-    let r = put_number(out, q, a.value as u64, b' ');
-    let s = put_number(out, r, a.runner as u64, b' ');
-    put_number(out, s, note as u64, b'\n')
+fn put_call(out: &mut [u8], at: usize, serial: u64, a: Answer, note: usize) -> usize {
+    let numbers = [
+        serial,
+        a.number as u64,
+        a.value as u64,
+        a.runner as u64,
+        note as u64,
+    ];
+    lines::put_line(out, at, &numbers)
 }
 
 // The line of an undo: number, runner, and the length of log that is left.
-fn put_back_line(out: &mut [u8], a: Answer, used: usize) -> usize {
+fn put_undo(out: &mut [u8], a: Answer, used: usize) -> usize {
     let p = pens::put_all(out, 0, b"back ");
-    let q = put_number(out, p, a.number as u64, b' ');
-    let r = put_number(out, q, a.runner as u64, b' ');
-    put_number(out, r, used as u64, b'\n')
-}
-
-// The text in front of `end`.
-fn print(out: &[u8], end: usize) {
-    if end <= out.len() {
-        io::write_all(1, &out[..end]);
-    }
+    let numbers = [a.number as u64, a.runner as u64, used as u64];
+    lines::put_line(out, p, &numbers)
 }
 
 // ---- forward
 
-// From one used length to the next.
-fn grown(before: usize, after: usize) -> usize {
-    if after <= before { 0 } else { after - before }
-}
-
-// One record more. The fresh state keeps its rules, and so does every state after it, so that no call tests them again.
-fn next(run: Run, bytes: [u8; 16], out: &mut [u8], log: &mut [u8]) -> Run {
-    let k = run.kernel;
-    let l = recording::recorded(k, bytes, log, run.used);
-    let n = std::num::wrapping_add_u64(run.serial, 1);
-    let end = put_line(out, run.end, n, l.answer, grown(run.used, l.used));
-    let state = l.kernel;
-    Run {
-        kernel: state,
-        used: l.used,
-        serial: n,
-        end: end,
-    }
-}
-
-// The text before is printed.
-fn emptied(run: Run) -> Run {
-    let k = run.kernel;
-    Run {
-        kernel: k,
-        used: run.used,
-        serial: run.serial,
-        end: 0,
-    }
-}
-
-// The whole records of s; a shorter tail is dropped.
-fn forward(start: Run, s: &[u8], out: &mut [u8], log: &mut [u8]) -> Run {
-    let mut run = emptied(start);
+// The whole records of s, and their lines; a shorter tail is dropped. The fresh state keeps its rules, and so does every state after
+// it, so that no call tests them again. A call never shortens the used part of the log.
+fn forward(start: Run, s: &[u8], log: &mut [u8]) -> Run {
+    let mut out = [0u8; 16384];
+    let mut run = start;
+    let mut end: usize = 0;
     let mut at: usize = 0;
     while 16 <= s.len() - at {
-        run = next(run, last::record_in(&s[at..]), out, log);
+        let l = recording::recorded(run.kernel, last::record_in(&s[at..]), log, run.used);
+        let n = std::num::wrapping_add_u64(run.serial, 1);
+        let note = std::num::wrapping_sub_usize(l.used, run.used);
+        end = put_call(&mut out, end, n, l.answer, note);
+        let state = l.kernel;
+        run = Run {
+            kernel: state,
+            used: l.used,
+            serial: n,
+        };
         at += 16;
     }
+    io::write_all(1, lines::front(&out, end));
     run
 }
 
 // Standard input to its end, from fresh, in chunks.
 fn all_forward(log: &mut [u8; 1048576]) -> Run {
     let mut input = io::buffer();
-    let mut output = [0u8; 16384];
     let mut run = Run {
         kernel: kernel::records::fresh(),
         used: 0,
         serial: 0,
-        end: 0,
     };
     let mut turns: u64 = 18446744073709551615;
     while 0 < turns {
         let n = io::read_full(0, &mut input);
-        run = forward(run, &input[..n], &mut output, log);
-        let end = run.end;
-        print(&output, end);
+        run = forward(run, &input[..n], log);
         if n < 4096 {
             return run;
         }
@@ -127,8 +91,8 @@ fn backwards(k: Kernel, log: &[u8; 1048576], used: usize) -> Kernel {
         if l.answer.number != 0 {
             return l.kernel;
         }
-        let end = put_back_line(&mut out, l.answer, l.used);
-        print(&out, end);
+        let end = put_undo(&mut out, l.answer, l.used);
+        io::write_all(1, lines::front(&out, end));
         let state = l.kernel;
         l = undos::undo(state, log, l.used);
         turns -= 1;

@@ -1,13 +1,6 @@
 // The bytes of notes: records from standard input to its end, with all notes in one log, whose used part is the output.
 use kernel::records;
 
-// The used part of the log.
-fn print(log: &[u8], used: usize) {
-    if used <= log.len() {
-        io::write_all(1, &log[..used]);
-    }
-}
-
 // A record at a time, from fresh; a shorter tail is dropped. The fresh state keeps its rules, and so does every state after it, so
 // that no call tests them again.
 fn all_forward(log: &mut [u8; 1048576]) {
@@ -18,14 +11,14 @@ fn all_forward(log: &mut [u8; 1048576]) {
     while 0 < turns {
         let n = io::read_full(0, &mut bytes);
         if n < 16 {
-            return print(log, used);
+            break;
         }
         let l = recording::recorded(k, bytes, log, used);
         k = l.kernel;
         used = l.used;
         turns -= 1;
     }
-    print(log, used)
+    io::write_all(1, lines::front(log, used));
 }
 
 fn main() {

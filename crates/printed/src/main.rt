@@ -1,65 +1,40 @@
 // Document 01's printed replay: records from standard input to its end, a line each, then the uptime.
 use answers::Answer;
-use coding::pens;
 use kernel::records::Kernel;
 use reading::last;
 
-// Where a run stands: its state, the records seen so far, and the end of the text written for the last ones.
+// Where a run stands: its state, and the records seen so far.
 struct Run {
     kernel: Kernel,
     serial: u64,
-    end: usize,
-}
-
-// ---- lines of decimal numbers in a lent buffer; a full buffer drops what does not fit
-
-// The decimal digits of n, and then the byte that ends them.
-fn put_number(out: &mut [u8], at: usize, n: u64, end: u8) -> usize {
-    let mut digits = [0u8; 20];
-    let count = io::decimal(n, &mut digits);
-    let p = pens::put_all(out, at, &digits[..count]);
-    pens::put_byte(out, p, end)
 }
 
 // The line of an answer: serial, number, value, runner.
-fn put_line(out: &mut [u8], at: usize, serial: u64, a: Answer) -> usize {
-    let p = put_number(out, at, serial, b' ');
-    let q = put_number(out, p, a.number as u64, b' ');
-    let r = put_number(out, q, a.value as u64, b' ');
-    put_number(out, r, a.runner as u64, b'\n')
+fn put_answer(out: &mut [u8], at: usize, serial: u64, a: Answer) -> usize {
+    let numbers = [serial, a.number as u64, a.value as u64, a.runner as u64];
+    lines::put_line(out, at, &numbers)
 }
 
-// The text in front of `end`.
-fn print(out: &[u8], end: usize) {
-    if end <= out.len() {
-        io::write_all(1, &out[..end]);
-    }
-}
-
-// ---- the replay
-
-// The whole records of s, replayed from k, each with an empty log; a shorter tail is dropped. The fresh state keeps its rules, and so
+// The whole records of s, each with an empty log, and their lines; a shorter tail is dropped. The fresh state keeps its rules, and so
 // does every state after it, so that no call tests them again.
-fn replayed(k: Kernel, serial: u64, s: &[u8], out: &mut [u8]) -> Run {
+fn replayed(start: Run, s: &[u8]) -> Run {
     let mut log = [0u8; 4096];
-    let mut run = Run {
-        kernel: k,
-        serial: serial,
-        end: 0,
-    };
+    let mut out = [0u8; 16384];
+    let mut run = start;
+    let mut end: usize = 0;
     let mut at: usize = 0;
     while 16 <= s.len() - at {
         let l = recording::recorded(run.kernel, last::record_in(&s[at..]), &mut log, 0);
         let n = std::num::wrapping_add_u64(run.serial, 1);
-        let end = put_line(out, run.end, n, l.answer);
+        end = put_answer(&mut out, end, n, l.answer);
         let state = l.kernel;
         run = Run {
             kernel: state,
             serial: n,
-            end: end,
         };
         at += 16;
     }
+    io::write_all(1, lines::front(&out, end));
     run
 }
 
@@ -72,19 +47,14 @@ fn finished(uptime: u32) {
 
 fn main() {
     let mut input = io::buffer();
-    let mut output = [0u8; 16384];
     let mut run = Run {
         kernel: kernel::records::fresh(),
         serial: 0,
-        end: 0,
     };
     let mut turns: u64 = 18446744073709551615;
     while 0 < turns {
         let n = io::read_full(0, &mut input);
-        let state = run.kernel;
-        run = replayed(state, run.serial, &input[..n], &mut output);
-        let end = run.end;
-        print(&output, end);
+        run = replayed(run, &input[..n]);
         if n < 4096 {
             return finished(run.kernel.uptime);
         }

@@ -10,6 +10,7 @@ fn places_kept(k: Kernel) -> bool
     ensures { λ r. ⌜ r ≡ placesKept k ⌝ }
 {
     let threads = k.threads;
+    let messages = k.messages;
     let q = k.places;
     if !queue::is_tidy(q) {
         return false;
@@ -17,7 +18,7 @@ fn places_kept(k: Kernel) -> bool
     if !tables::places_stand(threads, q) {
         return false;
     }
-    tables::in_rank(threads, q)
+    tables::in_order(threads, messages, tables::Order::Rank, q)
 }
 
 // The time queue: tidy, each thread with ticks left there once, in order.
@@ -25,6 +26,7 @@ fn time_kept(k: Kernel) -> bool
     ensures { λ r. ⌜ r ≡ timeKept k ⌝ }
 {
     let threads = k.threads;
+    let messages = k.messages;
     let q = k.time;
     if !queue::is_tidy(q) {
         return false;
@@ -32,13 +34,14 @@ fn time_kept(k: Kernel) -> bool
     if !tables::time_stands(threads, q) {
         return false;
     }
-    tables::in_time(threads, q)
+    tables::in_order(threads, messages, tables::Order::Time, q)
 }
 
 // The channels: tidy, each queued message there once, in order.
 fn posted_kept(k: Kernel) -> bool
     ensures { λ r. ⌜ r ≡ postedKept k ⌝ }
 {
+    let threads = k.threads;
     let messages = k.messages;
     let q = k.posted;
     if !queue::is_tidy(q) {
@@ -47,7 +50,7 @@ fn posted_kept(k: Kernel) -> bool
     if !tables::posts_stand(messages, q) {
         return false;
     }
-    tables::in_stream(messages, q)
+    tables::in_order(threads, messages, tables::Order::Stream, q)
 }
 
 fn threads_kept(k: Kernel) -> bool

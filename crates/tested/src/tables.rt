@@ -1,13 +1,15 @@
 // Whether a table holds each that belongs there once and nobody else, and is in order.
 ghost use mathlib.Core.Path.{_≡_};
 ghost use Rattle.queue.specs.Queues.{items};
-ghost use Rattle.queue.specs.Tables.{one, isPlaced};
+ghost use Rattle.queue.specs.Tables.{one, isPlaced, isOrderedFrom};
 ghost use Rattle.kernel.specs.Places.{hasHome, isQueued};
-ghost use Rattle.rules.specs.Tests.{isTicking, inRank, inTime, inStream};
+ghost use Rattle.rules.specs.Tests.{isTicking};
+ghost use Rattle.tested.specs.Orders.{keyOf};
 use kernel::places;
 use kernel::records::Message;
 use kernel::records::Thread;
 use queue::Queue;
+use seek::records;
 
 // How often one that belongs, or doesn't, stands in a table.
 fn times(belongs: bool) -> usize
@@ -67,68 +69,34 @@ pub fn posts_stand(messages: [Message; 64], q: Queue) -> bool
     true
 }
 
-// By home, then by priority.
-pub fn in_rank(threads: [Thread; 32], q: Queue) -> bool
-    ensures { λ b. ⌜ b ≡ inRank threads (items q) ⌝ }
-{
-    let at = q.at;
-    let n = queue::size(q);
-    let mut low: u32 = 0;
-    let mut i: usize = 0;
-    while i < n {
-        let u = at[i] as usize;
-        let mut key = places::NO_RANK;
-        if u < 32 {
-            let r = threads[u];
-            key = places::rank_of(r);
-        }
-        if key < low {
-            return false;
-        }
-        low = key;
-        i += 1;
-    }
-    true
+// What the members of a table are in order of: rank, ticks left, or stream.
+pub enum Order {
+    Rank,
+    Time,
+    Stream,
 }
 
-// By ticks left.
-pub fn in_time(threads: [Thread; 32], q: Queue) -> bool
-    ensures { λ b. ⌜ b ≡ inTime threads (items q) ⌝ }
+// What the member of this id is in order by.
+fn key_of(threads: [Thread; 32], messages: [Message; 64], by: Order, id: u8) -> u32
+    ensures { λ n. ⌜ n ≡ keyOf by threads messages id ⌝ }
 {
-    let at = q.at;
-    let n = queue::size(q);
-    let mut low: u32 = 0;
-    let mut i: usize = 0;
-    while i < n {
-        let u = at[i] as usize;
-        let mut key: u32 = 0;
-        if u < 32 {
-            key = threads[u].ticks;
-        }
-        if key < low {
-            return false;
-        }
-        low = key;
-        i += 1;
+    match by {
+        Order::Rank => places::rank_of(records::thread_at(threads, id as u16)),
+        Order::Time => records::thread_at(threads, id as u16).ticks,
+        Order::Stream => places::stream_of(records::message_at(messages, id)),
     }
-    true
 }
 
-// By owner, then by channel.
-pub fn in_stream(messages: [Message; 64], q: Queue) -> bool
-    ensures { λ b. ⌜ b ≡ inStream messages (items q) ⌝ }
+// Whether no member's key is less than that of the one before.
+pub fn in_order(threads: [Thread; 32], messages: [Message; 64], by: Order, q: Queue) -> bool
+    ensures { λ b. ⌜ b ≡ isOrderedFrom 0 (keyOf by threads messages) (items q) ⌝ }
 {
     let at = q.at;
     let n = queue::size(q);
     let mut low: u32 = 0;
     let mut i: usize = 0;
     while i < n {
-        let u = at[i] as usize;
-        let mut key: u32 = 0;
-        if u < 64 {
-            let r = messages[u];
-            key = places::stream_of(r);
-        }
+        let key = key_of(threads, messages, by, at[i]);
         if key < low {
             return false;
         }

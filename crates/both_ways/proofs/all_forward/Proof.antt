@@ -5,10 +5,10 @@ use Rattle.both_ways.proofs.all_forward.Statement.{statement}
 use Rattle.both_ways.proofs.all_forward.Tie as tie
 
 abbrev Inv-loop : tie.InvT-loop
-Inv-loop log₀ input₀ output₀ run₀ turns₀ log input output run turns = (length input ≡ 4096) × (length output ≡ 16384)
+Inv-loop log₀ input₀ run₀ turns₀ log input run turns = length input ≡ 4096
 
 abbrev μ-loop : tie.MeasureT-loop
-μ-loop log₀ input₀ output₀ run₀ turns₀ log input output run turns = turns
+μ-loop log₀ input₀ run₀ turns₀ log input run turns = turns
 
 buffer-requires : tie.Need-buffer-requires Inv-loop μ-loop
 buffer-requires c κs = search needs
@@ -31,17 +31,8 @@ array-share-prefix-input c = search needs
 slice-aggregate-forward : tie.Need-slice-aggregate-forward Inv-loop μ-loop
 slice-aggregate-forward c = search needs
 
-slice-aggregate-forward-2 : tie.Need-slice-aggregate-forward-2 Inv-loop μ-loop
-slice-aggregate-forward-2 c = search needs
-
 forward-requires : tie.Need-forward-requires Inv-loop μ-loop
 forward-requires c κs = search needs
-
-slice-aggregate-print : tie.Need-slice-aggregate-print Inv-loop μ-loop
-slice-aggregate-print c = search needs
-
-print-requires : tie.Need-print-requires Inv-loop μ-loop
-print-requires c κs = search needs
 
 returns : tie.Need-returns Inv-loop μ-loop
 returns c = search needs
@@ -71,10 +62,7 @@ all-forward-spec =
     read-full-requires
     array-share-prefix-input
     slice-aggregate-forward
-    slice-aggregate-forward-2
     forward-requires
-    slice-aggregate-print
-    print-requires
     returns
     sub-turns
     loop-less

@@ -19,17 +19,20 @@ loop-holds c = search needs
 returns : tie.Need-returns Inv-loop μ-loop
 returns c = search needs
 
-slice-aggregate-put-back-line : tie.Need-slice-aggregate-put-back-line Inv-loop μ-loop
-slice-aggregate-put-back-line c = search needs
+slice-aggregate-put-undo : tie.Need-slice-aggregate-put-undo Inv-loop μ-loop
+slice-aggregate-put-undo c = search needs
 
-put-back-line-requires : tie.Need-put-back-line-requires Inv-loop μ-loop
-put-back-line-requires c κs = search needs
+put-undo-requires : tie.Need-put-undo-requires Inv-loop μ-loop
+put-undo-requires c κs = search needs
 
-slice-aggregate-print : tie.Need-slice-aggregate-print Inv-loop μ-loop
-slice-aggregate-print c = search needs
+slice-aggregate-front : tie.Need-slice-aggregate-front Inv-loop μ-loop
+slice-aggregate-front c = search needs
 
-print-requires : tie.Need-print-requires Inv-loop μ-loop
-print-requires c κs = search needs
+front-requires : tie.Need-front-requires Inv-loop μ-loop
+front-requires c κs = search needs
+
+write-all-requires : tie.Need-write-all-requires Inv-loop μ-loop
+write-all-requires c κs = search needs
 
 undo-requires-2 : tie.Need-undo-requires-2 Inv-loop μ-loop
 undo-requires-2 c κs = search needs
@@ -55,10 +58,11 @@ backwards-spec =
     undo-requires
     loop-holds
     returns
-    slice-aggregate-put-back-line
-    put-back-line-requires
-    slice-aggregate-print
-    print-requires
+    slice-aggregate-put-undo
+    put-undo-requires
+    slice-aggregate-front
+    front-requires
+    write-all-requires
     undo-requires-2
     sub-turns
     loop-less

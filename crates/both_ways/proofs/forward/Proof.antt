@@ -7,13 +7,10 @@ use Rattle.both_ways.proofs.forward.Statement.{statement}
 use Rattle.both_ways.proofs.forward.Tie as tie
 
 abbrev Inv-loop : tie.InvT-loop
-Inv-loop s out₀ log₀ run₀ at₀ out log run at = (at ≤ length s) × (length out ≡ length out₀) × (length log ≡ length log₀)
+Inv-loop s log₀ out₀ run₀ end₀ at₀ log out run end at = (at ≤ length s) × (length out ≡ 16384) × (length log ≡ length log₀)
 
 abbrev μ-loop : tie.MeasureT-loop
-μ-loop s out₀ log₀ run₀ at₀ out log run at = length s - at
-
-emptied-requires : tie.Need-emptied-requires Inv-loop μ-loop
-emptied-requires c κs = search needs
+μ-loop s log₀ out₀ run₀ end₀ at₀ log out run end at = length s - at
 
 loop-holds : tie.Need-loop-holds Inv-loop μ-loop
 loop-holds c = search needs
@@ -33,11 +30,23 @@ part-record-in-end c = search needs
 record-in-requires : tie.Need-record-in-requires Inv-loop μ-loop
 record-in-requires c κs = search needs
 
-next-requires : tie.Need-next-requires Inv-loop μ-loop
-next-requires c κs = search needs
+recorded-requires : tie.Need-recorded-requires Inv-loop μ-loop
+recorded-requires c κs = search needs
+
+wrapping-add-u64-requires : tie.Need-wrapping-add-u64-requires Inv-loop μ-loop
+wrapping-add-u64-requires c κs = search needs
+
+wrapping-sub-usize-requires : tie.Need-wrapping-sub-usize-requires Inv-loop μ-loop
+wrapping-sub-usize-requires c κs = search needs
+
+slice-aggregate-put-call : tie.Need-slice-aggregate-put-call Inv-loop μ-loop
+slice-aggregate-put-call c = search needs
+
+put-call-requires : tie.Need-put-call-requires Inv-loop μ-loop
+put-call-requires c κs = search needs
 
 add-at : tie.Need-add-at Inv-loop μ-loop
-add-at c = omega (arith, c .before .before .before .before .before .before .before .before .before .before .before .before .before .before .before .good)
+add-at c = omega (arith, c .before .before .before .before .before .before .before .before .before .before .before .before .before .before .before .before .good)
 
 loop-less : tie.Need-loop-less Inv-loop μ-loop
 loop-less c = search needs
@@ -45,11 +54,17 @@ loop-less c = search needs
 loop-again : tie.Need-loop-again Inv-loop μ-loop
 loop-again c = search needs
 
+slice-aggregate-front : tie.Need-slice-aggregate-front Inv-loop μ-loop
+slice-aggregate-front c = search needs
+
+front-requires : tie.Need-front-requires Inv-loop μ-loop
+front-requires c κs = search needs
+
+write-all-requires : tie.Need-write-all-requires Inv-loop μ-loop
+write-all-requires c κs = search needs
+
 same-length : tie.Need-same-length Inv-loop μ-loop
 same-length c = search needs
-
-same-length-2 : tie.Need-same-length-2 Inv-loop μ-loop
-same-length-2 c = search needs
 
 returns : tie.Need-returns Inv-loop μ-loop
 returns c = search needs
@@ -60,17 +75,22 @@ forward-spec =
     (tie.spec
     Inv-loop
     μ-loop
-    emptied-requires
     loop-holds
     sub-loop
     sub-record-in
     part-record-in-start
     part-record-in-end
     record-in-requires
-    next-requires
+    recorded-requires
+    wrapping-add-u64-requires
+    wrapping-sub-usize-requires
+    slice-aggregate-put-call
+    put-call-requires
     add-at
     loop-less
     loop-again
+    slice-aggregate-front
+    front-requires
+    write-all-requires
     same-length
-    same-length-2
     returns)

@@ -5,10 +5,10 @@ use Rattle.printed.proofs.main.Statement.{statement}
 use Rattle.printed.proofs.main.Tie as tie
 
 abbrev Inv-loop : tie.InvT-loop
-Inv-loop input₀ output₀ run₀ turns₀ input output run turns = (length input ≡ 4096) × (length output ≡ 16384)
+Inv-loop input₀ run₀ turns₀ input run turns = length input ≡ 4096
 
 abbrev μ-loop : tie.MeasureT-loop
-μ-loop input₀ output₀ run₀ turns₀ input output run turns = turns
+μ-loop input₀ run₀ turns₀ input run turns = turns
 
 buffer-requires : tie.Need-buffer-requires Inv-loop μ-loop
 buffer-requires c κs = search needs
@@ -31,17 +31,8 @@ array-share-prefix-input c = search needs
 slice-aggregate-replayed : tie.Need-slice-aggregate-replayed Inv-loop μ-loop
 slice-aggregate-replayed c = search needs
 
-slice-aggregate-replayed-2 : tie.Need-slice-aggregate-replayed-2 Inv-loop μ-loop
-slice-aggregate-replayed-2 c = search needs
-
 replayed-requires : tie.Need-replayed-requires Inv-loop μ-loop
 replayed-requires c κs = search needs
-
-slice-aggregate-print : tie.Need-slice-aggregate-print Inv-loop μ-loop
-slice-aggregate-print c = search needs
-
-print-requires : tie.Need-print-requires Inv-loop μ-loop
-print-requires c κs = search needs
 
 finished-requires : tie.Need-finished-requires Inv-loop μ-loop
 finished-requires c κs = search needs
@@ -77,10 +68,7 @@ main-spec =
     read-full-requires
     array-share-prefix-input
     slice-aggregate-replayed
-    slice-aggregate-replayed-2
     replayed-requires
-    slice-aggregate-print
-    print-requires
     finished-requires
     returns
     sub-turns

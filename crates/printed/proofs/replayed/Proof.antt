@@ -1,16 +1,15 @@
 use Prim.Native.Nat.{_≤_, _-_}
 use mathlib.Core.Path.{_≡_}
 use lib.ListN.{length}
-use native.Mathlib.Omega.{arith}
 use borrow.Author.Needs.{needs}
 use Rattle.printed.proofs.replayed.Statement.{statement}
 use Rattle.printed.proofs.replayed.Tie as tie
 
 abbrev Inv-loop : tie.InvT-loop
-Inv-loop serial s out₀ log₀ run₀ at₀ out log run at = (at ≤ length s) × (length out ≡ length out₀) × (length log ≡ 4096)
+Inv-loop s log₀ out₀ run₀ end₀ at₀ log out run end at = (at ≤ length s) × (length log ≡ 4096) × (length out ≡ 16384)
 
 abbrev μ-loop : tie.MeasureT-loop
-μ-loop serial s out₀ log₀ run₀ at₀ out log run at = length s - at
+μ-loop s log₀ out₀ run₀ end₀ at₀ log out run end at = length s - at
 
 loop-holds : tie.Need-loop-holds Inv-loop μ-loop
 loop-holds c = search needs
@@ -39,11 +38,14 @@ recorded-requires c κs = search needs
 wrapping-add-u64-requires : tie.Need-wrapping-add-u64-requires Inv-loop μ-loop
 wrapping-add-u64-requires c κs = search needs
 
-put-line-requires : tie.Need-put-line-requires Inv-loop μ-loop
-put-line-requires c κs = search needs
+slice-aggregate-put-answer : tie.Need-slice-aggregate-put-answer Inv-loop μ-loop
+slice-aggregate-put-answer c = search needs
+
+put-answer-requires : tie.Need-put-answer-requires Inv-loop μ-loop
+put-answer-requires c κs = search needs
 
 add-at : tie.Need-add-at Inv-loop μ-loop
-add-at c = omega (arith, c .before .before .before .before .before .before .before .before .before .before .before .before .before .before .before .good)
+add-at c = search needs
 
 loop-less : tie.Need-loop-less Inv-loop μ-loop
 loop-less c = search needs
@@ -51,8 +53,14 @@ loop-less c = search needs
 loop-again : tie.Need-loop-again Inv-loop μ-loop
 loop-again c = search needs
 
-same-length : tie.Need-same-length Inv-loop μ-loop
-same-length c = search needs
+slice-aggregate-front : tie.Need-slice-aggregate-front Inv-loop μ-loop
+slice-aggregate-front c = search needs
+
+front-requires : tie.Need-front-requires Inv-loop μ-loop
+front-requires c κs = search needs
+
+write-all-requires : tie.Need-write-all-requires Inv-loop μ-loop
+write-all-requires c κs = search needs
 
 returns : tie.Need-returns Inv-loop μ-loop
 returns c = search needs
@@ -72,9 +80,12 @@ replayed-spec =
     slice-aggregate-recorded
     recorded-requires
     wrapping-add-u64-requires
-    put-line-requires
+    slice-aggregate-put-answer
+    put-answer-requires
     add-at
     loop-less
     loop-again
-    same-length
+    slice-aggregate-front
+    front-requires
+    write-all-requires
     returns)

@@ -1,7 +1,7 @@
 -- `rules::places_kept` meets its contract: the first test that fails answers, and the last where none did.
 use mathlib.Core.Bool.{and-true}
 use borrow.Author.Needs.{needs}
-use Rattle.rules.specs.Tests.{placesKept}
+use Rattle.rules.specs.Tests.{placesKept, inRank}
 use Rattle.proper.proofs.Answers.{refused, passed}
 use Rattle.tested.proofs.places_kept.Statement.{statement}
 use Rattle.tested.proofs.places_kept.Tie as tie
@@ -22,17 +22,17 @@ returns-2 c =
     let b = c .before .before in
     rw (passed (b .before .is-tidy .ensures) (b .if1 .left), refused (c .before .places-stand .ensures) (c .if2 .taken))
 
-in-rank-requires : tie.Need-in-rank-requires
-in-rank-requires c κs = search needs
+in-order-requires : tie.Need-in-order-requires
+in-order-requires c κs = search needs
 
 returns-3 : tie.Need-returns-3
-unfolding placesKept
+unfolding placesKept inRank
 returns-3 c =
     let b = c .before .before .before in
     rw (passed (b .before .is-tidy .ensures) (b .if1 .left), passed (c .before .before .places-stand .ensures) (c .before .if2 .left), and-true)
-    (c .in-rank .ensures)
+    (c .in-order .ensures)
 
 pub places-kept-spec : {M : Type 1} → statement M
 places-kept-spec =
     tie.close
-    (tie.spec is-tidy-requires returns places-stand-requires returns-2 in-rank-requires returns-3)
+    (tie.spec is-tidy-requires returns places-stand-requires returns-2 in-order-requires returns-3)

@@ -1,7 +1,7 @@
 -- `rules::posted_kept` meets its contract: the first test that fails answers, and the last where none did.
 use mathlib.Core.Bool.{and-true}
 use borrow.Author.Needs.{needs}
-use Rattle.rules.specs.Tests.{postedKept}
+use Rattle.rules.specs.Tests.{postedKept, inStream}
 use Rattle.proper.proofs.Answers.{refused, passed}
 use Rattle.tested.proofs.posted_kept.Statement.{statement}
 use Rattle.tested.proofs.posted_kept.Tie as tie
@@ -22,17 +22,17 @@ returns-2 c =
     let b = c .before .before in
     rw (passed (b .before .is-tidy .ensures) (b .if1 .left), refused (c .before .posts-stand .ensures) (c .if2 .taken))
 
-in-stream-requires : tie.Need-in-stream-requires
-in-stream-requires c κs = search needs
+in-order-requires : tie.Need-in-order-requires
+in-order-requires c κs = search needs
 
 returns-3 : tie.Need-returns-3
-unfolding postedKept
+unfolding postedKept inStream
 returns-3 c =
     let b = c .before .before .before in
     rw (passed (b .before .is-tidy .ensures) (b .if1 .left), passed (c .before .before .posts-stand .ensures) (c .before .if2 .left), and-true)
-    (c .in-stream .ensures)
+    (c .in-order .ensures)
 
 pub posted-kept-spec : {M : Type 1} → statement M
 posted-kept-spec =
     tie.close
-    (tie.spec is-tidy-requires returns posts-stand-requires returns-2 in-stream-requires returns-3)
+    (tie.spec is-tidy-requires returns posts-stand-requires returns-2 in-order-requires returns-3)

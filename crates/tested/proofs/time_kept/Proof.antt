@@ -1,7 +1,7 @@
 -- `rules::time_kept` meets its contract: the first test that fails answers, and the last where none did.
 use mathlib.Core.Bool.{and-true}
 use borrow.Author.Needs.{needs}
-use Rattle.rules.specs.Tests.{timeKept}
+use Rattle.rules.specs.Tests.{timeKept, inTime}
 use Rattle.proper.proofs.Answers.{refused, passed}
 use Rattle.tested.proofs.time_kept.Statement.{statement}
 use Rattle.tested.proofs.time_kept.Tie as tie
@@ -22,17 +22,17 @@ returns-2 c =
     let b = c .before .before in
     rw (passed (b .before .is-tidy .ensures) (b .if1 .left), refused (c .before .time-stands .ensures) (c .if2 .taken))
 
-in-time-requires : tie.Need-in-time-requires
-in-time-requires c κs = search needs
+in-order-requires : tie.Need-in-order-requires
+in-order-requires c κs = search needs
 
 returns-3 : tie.Need-returns-3
-unfolding timeKept
+unfolding timeKept inTime
 returns-3 c =
     let b = c .before .before .before in
     rw (passed (b .before .is-tidy .ensures) (b .if1 .left), passed (c .before .before .time-stands .ensures) (c .before .if2 .left), and-true)
-    (c .in-time .ensures)
+    (c .in-order .ensures)
 
 pub time-kept-spec : {M : Type 1} → statement M
 time-kept-spec =
     tie.close
-    (tie.spec is-tidy-requires returns time-stands-requires returns-2 in-time-requires returns-3)
+    (tie.spec is-tidy-requires returns time-stands-requires returns-2 in-order-requires returns-3)
