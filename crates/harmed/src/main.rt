@@ -19,18 +19,18 @@ use kernel::records::Kernel;
 use reading::last;
 use replay::logs;
 use replay::logs::Logged;
-use replay::step::Answer;
 use replay::undos;
 use trials::again;
-use trials::answers;
 use trials::answers::came_back;
+use trials::answers::without_value;
 use trials::copies::copied;
+use trials::entries;
 use trials::lines;
 use trials::tallies;
 use trials::tallies::Tally;
 
-// One trial: the number that came back, the used length after it, and whether all was right.
-struct Outcome {
+// The end of a trial: the number that came back, the used length after it, and whether all was right.
+struct Ending {
     number: u8,
     end: usize,
     right: bool,
@@ -52,83 +52,71 @@ struct Run {
 
 // ---- one trial
 
-// A refusal with the log: the answer without a value, everything as it was, and nothing is appended.
-fn on_refused(d: Kernel, bytes: [u8; 16], log: &mut [u8], used: usize, a: Answer) -> bool {
-    if !came_back(logs::called(d, bytes, log, used), a, d, used) {
-        return false;
-    }
-    logs::append(d, bytes, log, used).len() == 0
-}
-
-// A broken state: every entry that answers says 14 and hands back what it was given, with room and without.
-fn on_broken(d: Kernel, bytes: [u8; 16], log: &mut [u8], used: usize) -> bool {
-    let a = answers::answer(14, 255);
-    if !came_back(logs::called(d, bytes, log, 0), a, d, 0) {
-        return false;
-    }
+// A broken state: every entry that answers says 14 and hands back what it was given, with room and without, and nothing is appended.
+fn on_broken(d: Kernel, bytes: [u8; 16], log: &mut [u8; 16384], used: usize) -> bool {
+    let a = without_value(14, 255);
     if !came_back(undos::undo(d, log, used), a, d, used) {
         return false;
     }
-    on_refused(d, bytes, log, used, a)
+    if !entries::refused(d, bytes, log, 0, a).right {
+        return false;
+    }
+    entries::refused(d, bytes, log, used, a).right
 }
 
-// A call that is accepted where there is room gave l: the log has the same answer, the same state and a note as long; its undo gives the
+// A call that is refused where there is room gave l: refused as it must be, and with the log the same.
+fn on_refused(l: Logged, d: Kernel, bytes: [u8; 16], log: &mut [u8; 16384], used: usize) -> bool {
+    let a = without_value(l.answer.number, d.runner);
+    if !came_back(l, a, d, 0) {
+        return false;
+    }
+    entries::refused(d, bytes, log, used, a).right
+}
+
+// A call that is accepted where there is room gave l: with the log the same answer, the same state and a note as long; its undo gives the
 // damaged state back; appended, it hands back the note.
 fn on_accepted(
     l: Logged,
     d: Kernel,
     bytes: [u8; 16],
-    log: &mut [u8],
+    log: &mut [u8; 16384],
     used: usize,
     end: usize,
 ) -> bool {
-    if !came_back(logs::called(d, bytes, log, used), l.answer, l.kernel, end) {
+    let noted = logs::called(d, bytes, log, used);
+    if !came_back(noted, l.answer, l.kernel, end) {
         return false;
     }
-    if !came_back(
-        undos::undo(l.kernel, log, end),
-        answers::answer(0, d.runner),
-        d,
-        used,
-    ) {
+    if !entries::undone_to(noted, log, d, used) {
         return false;
     }
-    logs::append(d, bytes, log, used).len() == l.used
+    entries::appended(d, bytes, log, used) == l.used
 }
 
-fn ended(number: u8, end: usize, right: bool) -> Outcome {
-    Outcome {
+fn ended(number: u8, end: usize, right: bool) -> Ending {
+    Ending {
         number: number,
         end: end,
         right: right,
     }
 }
 
-// A call that is refused where there is room gave l: refused as a refusal must be, and with the log the same.
-fn on_refused_too(l: Logged, d: Kernel, bytes: [u8; 16], log: &mut [u8], used: usize) -> bool {
-    let a = answers::answer(l.answer.number, d.runner);
-    if !came_back(l, a, d, 0) {
-        return false;
-    }
-    on_refused(d, bytes, log, used, a)
-}
-
 // A state that keeps its rules: where there is room the call gave l. A used length beyond the log leaves none.
-fn on_kept(l: Logged, d: Kernel, bytes: [u8; 16], log: &mut [u8], used: usize) -> Outcome {
+fn on_kept(l: Logged, d: Kernel, bytes: [u8; 16], log: &mut [u8; 16384], used: usize) -> Ending {
     let number = l.answer.number;
     if number != 0 {
-        return ended(number, used, on_refused_too(l, d, bytes, log, used));
+        return ended(number, used, on_refused(l, d, bytes, log, used));
     }
     if 16384 < used {
-        let a = answers::answer(13, d.runner);
-        return ended(13, used, on_refused(d, bytes, log, used, a));
+        let a = without_value(13, d.runner);
+        return ended(13, used, entries::refused(d, bytes, log, used, a).right);
     }
     let end = std::num::wrapping_add_usize(used, l.used);
     ended(0, end, on_accepted(l, d, bytes, log, used, end))
 }
 
 // The record on a damaged state, through every entry.
-fn entered(d: Kernel, bytes: [u8; 16], log: &mut [u8], used: usize) -> Outcome {
+fn entered(d: Kernel, bytes: [u8; 16], log: &mut [u8; 16384], used: usize) -> Ending {
     if !tested::keeps_rules(d) {
         return ended(14, used, on_broken(d, bytes, log, used));
     }
@@ -148,7 +136,7 @@ fn length_of(r: u64, used: usize) -> usize {
 }
 
 // The end of a trial: a note that it wrote is taken off the log, which then must be what it was.
-fn settled(h: Harm, o: Outcome, log: &mut [u8], copy: &[u8], used: usize) -> Harm {
+fn settled(h: Harm, o: Ending, log: &mut [u8; 16384], copy: &[u8; 16384], used: usize) -> Harm {
     let kept = copied(log, copy, used, o.end);
     Harm {
         states: tallies::counted(h.states, tallies::ended(o.number, o.right && kept)),
@@ -162,8 +150,8 @@ fn trial(
     k: Kernel,
     field: u8,
     bytes: [u8; 16],
-    log: &mut [u8],
-    copy: &[u8],
+    log: &mut [u8; 16384],
+    copy: &[u8; 16384],
     used: usize,
 ) -> Harm {
     let n = length_of(h.dice, used);
@@ -172,7 +160,14 @@ fn trial(
 }
 
 // A trial with each field.
-fn trials(h: Harm, k: Kernel, bytes: [u8; 16], log: &mut [u8], copy: &[u8], used: usize) -> Harm {
+fn trials(
+    h: Harm,
+    k: Kernel,
+    bytes: [u8; 16],
+    log: &mut [u8; 16384],
+    copy: &[u8; 16384],
+    used: usize,
+) -> Harm {
     let mut next = h;
     let mut field: u8 = 0;
     while field < damage::FIELDS {
@@ -194,7 +189,7 @@ fn recorded(l: Logged, only: bool, records: Tally, h: Harm) -> Run {
 }
 
 // One record more, with the damage before it; the copy takes over its note.
-fn next(run: Run, bytes: [u8; 16], log: &mut [u8], copy: &mut [u8]) -> Run {
+fn next(run: Run, bytes: [u8; 16], log: &mut [u8; 16384], copy: &mut [u8; 16384]) -> Run {
     let from = run.used;
     let h = trials(run.harm, run.kernel, bytes, log, copy, from);
     let l = logs::called(run.kernel, bytes, log, from);
@@ -216,7 +211,7 @@ fn started() -> Run {
 }
 
 // The whole records of s, with one log and its copy; a shorter tail is dropped.
-fn all(s: &[u8], log: &mut [u8], copy: &mut [u8]) -> Run {
+fn all(s: &[u8], log: &mut [u8; 16384], copy: &mut [u8; 16384]) -> Run {
     let mut run = started();
     let mut at: usize = 0;
     while 16 <= s.len() - at {

@@ -1,4 +1,7 @@
 // The call that a note tells of: made again with an empty log of its own.
+ghost use mathlib.Core.Path.{_≡_};
+ghost use lib.ListN.{replicate};
+ghost use Rattle.replay.specs.Logs.{calledWith};
 use crate::answers::came_back;
 use coding::bytes::byte_at;
 use coding::bytes::same_bytes;
@@ -12,7 +15,9 @@ use replay::logs::Logged;
 use replay::step::Answer;
 
 // The call with an empty log, which has room for any note.
-pub fn apart(k: Kernel, bytes: [u8; 16]) -> Logged {
+pub fn apart(k: Kernel, bytes: [u8; 16]) -> Logged
+    ensures { λ r. ⌜ r ≡ calledWith k bytes (replicate 4096 0) 0 ⌝ }
+{
     let mut own = [0u8; 4096];
     logs::called(k, bytes, &mut own, 0)
 }
@@ -47,11 +52,11 @@ pub fn noted_answer(note: &[u8], runner: u8) -> Answer {
     }
 }
 
-// Whether the note's record on a state yields this answer, this end state and this very note.
-pub fn yields(old: Kernel, note: &[u8], a: Answer, end: Kernel) -> bool {
+// Whether the note's record on a state yields this end state and this very note, with the answer that the note tells.
+pub fn yields(old: Kernel, note: &[u8], end: Kernel) -> bool {
     let mut own = [0u8; 4096];
     let l = logs::called(old, last::record_in(note), &mut own, 0);
-    if !came_back(l, a, end, note.len()) {
+    if !came_back(l, noted_answer(note, end.runner), end, note.len()) {
         return false;
     }
     same_bytes(&own, 0, note)

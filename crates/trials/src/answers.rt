@@ -7,7 +7,7 @@ use replay::logs::Logged;
 use replay::step::Answer;
 
 // An answer without a value.
-pub fn answer(number: u8, runner: u8) -> Answer
+pub fn without_value(number: u8, runner: u8) -> Answer
     ensures { λ r. ⌜ r ≡ answer number 255 runner ⌝ }
 {
     Answer {

@@ -2,5 +2,6 @@
 pub mod again;
 pub mod answers;
 pub mod copies;
+pub mod entries;
 pub mod lines;
 pub mod tallies;
