@@ -3,8 +3,9 @@
 //
 //   full      before the record: the log ends at each byte of the room that the note needs, and logs::called and append are tried. Both
 //             must refuse: number 13, value 255, the runner, the state and the used length as they were, an empty part.
-//   records   the record itself. Where it is refused, all is as it was. Where it is accepted, the undo must give back the state
-//             and the used length before it. Either way the log is to the last byte what it was, but for the note.
+//   records   the record itself. Where it is refused, all is as it was, with value 255. Where it is accepted, its value is the one that
+//             its note tells, its runner the next state's, and the undo must give back value 255, the state with its runner, and the
+//             used length before it. Either way the log is to the last byte what it was, but for the note.
 //   cut       after it: the log and its used length end at each byte of the note, its first one too (the note is missing as a whole).
 //   short     the log ends there, but not its used length.
 //   flipped   each bit of the note is flipped.
@@ -12,8 +13,9 @@
 //
 // What must come back from an undo of a damaged log: either a refusal (number 15, value 255, the runner, the state and the used length
 // as they were), or number 0, value 255, a state, its runner and a length of log, such that logs::called with this state and with the
-// record in front of the note behind that length accepts, gives the end state again, and writes that note to the last byte. A used
-// length beyond the log must be refused. A trial in which anything else comes back is wrong.
+// record in front of the note behind that length accepts, answers with the value that the note tells and with the end state's runner,
+// gives the end state again, and writes that note to the last byte. The value that a note tells is the id of what the call created or of
+// the message that it took, else 255. A used length beyond the log must be refused. A trial in which anything else comes back is wrong.
 //
 // A line for each kind: how many were tried, refused and accepted. Each byte that the run writes to the log is once a byte of the
 // last note, so that full, cut and short are tried as many times as the run writes bytes (`used`), flipped eight times that, and beyond
@@ -107,7 +109,7 @@ fn parts(t: Tally, k: Kernel, log: &[u8], at: Note, used: usize) -> Tally {
 }
 
 // One bit of the log flipped, and flipped back.
-fn on_flip(k: Kernel, log: &mut [u8], bit: usize, used: usize) -> Outcome {
+fn on_flip(k: Kernel, log: &mut [u8; 16384], bit: usize, used: usize) -> Outcome {
     let at = bit / 8;
     let old = byte_at(log, at);
     pens::put_byte(log, at, old ^ (1 << bit % 8));
@@ -117,7 +119,7 @@ fn on_flip(k: Kernel, log: &mut [u8], bit: usize, used: usize) -> Outcome {
 }
 
 // Each bit of the note.
-fn flips(t: Tally, k: Kernel, log: &mut [u8], at: Note) -> Tally {
+fn flips(t: Tally, k: Kernel, log: &mut [u8; 16384], at: Note) -> Tally {
     let mut next = t;
     let mut bit = at.from << 3;
     let end = at.to << 3;
@@ -265,20 +267,14 @@ fn all(s: &[u8], log: &mut [u8; 16384], copy: &mut [u8; 16384]) -> Run {
 
 // ---- the lines
 
-// The line of a kind; the wrong ones so far with its own.
-fn line(name: &[u8], t: Tally, wrong: u64) -> u64 {
-    lines::line(name, t);
-    std::num::wrapping_add_u64(wrong, t.wrong)
-}
-
 // All lines.
 fn shown(h: Harm, used: usize) {
-    let a = line(b"full ", h.full, 0);
-    let b = line(b"records ", h.records, a);
-    let c = line(b"cut ", h.cut, b);
-    let d = line(b"short ", h.short, c);
-    let e = line(b"flipped ", h.flipped, d);
-    let wrong = line(b"beyond ", h.beyond, e);
+    let a = lines::line(b"full ", h.full, 0);
+    let b = lines::line(b"records ", h.records, a);
+    let c = lines::line(b"cut ", h.cut, b);
+    let d = lines::line(b"short ", h.short, c);
+    let e = lines::line(b"flipped ", h.flipped, d);
+    let wrong = lines::line(b"beyond ", h.beyond, e);
     lines::show(b"used ", used as u64);
     io::write_all(1, b"\n");
     lines::last_line(wrong)

@@ -1,20 +1,20 @@
 // Damaged states. The records of standard input run from the fresh state, with one log of 16384 bytes. Before each record every
 // field of the state is damaged in turn: the field of one record, one table or the state itself gets a value that a generator draws, and
 // so does the record's id or the table's place. The record is then tried on the damaged state through every public entry:
-// step::called, logs::called, logs::append and undos::undo. Most trials have the log's own used length, some 0, some one beyond its end.
+// logs::called, logs::append and undos::undo. Most trials have the log's own used length, some 0, some one beyond its end. Each is
+// held against the call where there is room: with an empty log of its own, on a broken state with the used length 0.
 //
 // What must come back. Where tested::keeps_rules says that the damage broke a state rule: from every entry the number 14, value 255,
-// runner 255, the damaged state and the used length as they were, from append an empty part. Where no rule is broken: with the log
-// the same answer and the same state as without it, or 13 where the used length is beyond the log; a refusal with value 255, the
-// runner, the state and the used length as they were; after an accepted call an undo that gives back number 0, value 255 and the damaged
-// state to the last field; from append a part as long as the note. After every trial the log is to the last byte what it was, but for the
-// note of an accepted call between the used lengths before and after.
+// runner 255, the damaged state and the used length as they were, from append an empty part, with room and without. Where no rule is
+// broken: with the log the same answer and the same state as with a log of its own, or 13 where the used length is beyond the log; a
+// refusal with value 255, the runner, the state and the used length as they were; after an accepted call an undo that gives back number
+// 0, value 255 and the damaged state to the last field; from append a part as long as the note. After every trial the log is to the last
+// byte what it was, but for the note of an accepted call between the used lengths before and after.
 // A trial in which anything else comes back is wrong, and counted once. So is a record of the run that wrote more than its note.
 //
 // A line for the records of the run and one for the damaged states: how many were tried, and how many of them were broken (14),
-// refused for another reason, and accepted. Threads have 7 fields, semaphores 5, events 3, messages 7, the tables 6 (length and one place
-// of each of three), and the state 5 more (bits, uptime, two levels, runner): 33 times the number of records is tried. The last line has
-// all wrong ones; it must be 0. How many are broken, refused or accepted depends on what was drawn.
+// refused for another reason, and accepted. A state has 33 fields (damage::FIELDS): 33 times the number of records is tried. The last line
+// has all wrong ones; it must be 0. How many are broken, refused or accepted depends on what was drawn.
 use kernel::records::Kernel;
 use reading::last;
 use replay::logs;
@@ -224,9 +224,8 @@ fn all(s: &[u8], log: &mut [u8; 16384], copy: &mut [u8; 16384]) -> Run {
 
 // The lines.
 fn shown(records: Tally, states: Tally) {
-    lines::line_of_states(b"records ", records);
-    lines::line_of_states(b"states ", states);
-    lines::last_line(std::num::wrapping_add_u64(records.wrong, states.wrong))
+    let some = lines::line_of_states(b"records ", records, 0);
+    lines::last_line(lines::line_of_states(b"states ", states, some))
 }
 
 // The run on arrays, which are lent whole.

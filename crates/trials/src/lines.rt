@@ -1,4 +1,6 @@
 // The lines of a program that tries.
+ghost use mathlib.Core.Path.{_≡_};
+ghost use Prim.Native.Nat.{_+_, _%_, _^_};
 use crate::tallies::Tally;
 
 // A name, and a number behind it.
@@ -14,18 +16,24 @@ fn show_rest(t: Tally) {
     io::write_all(1, b"\n");
 }
 
-// The line of trials on states that keep their rules.
-pub fn line(name: &[u8], t: Tally) {
+// The line of trials on states that keep their rules; the wrong ones so far with its own.
+pub fn line(name: &[u8], t: Tally, wrong: u64) -> u64
+    ensures { λ r. ⌜ r ≡ (wrong + t .wrong) % 2 ^ 64 ⌝ }
+{
     show(name, std::num::wrapping_add_u64(t.refused, t.accepted));
-    show_rest(t)
+    show_rest(t);
+    std::num::wrapping_add_u64(wrong, t.wrong)
 }
 
-// The line of trials on any states.
-pub fn line_of_states(name: &[u8], t: Tally) {
+// The same of trials on any states.
+pub fn line_of_states(name: &[u8], t: Tally, wrong: u64) -> u64
+    ensures { λ r. ⌜ r ≡ (wrong + t .wrong) % 2 ^ 64 ⌝ }
+{
     let kept = std::num::wrapping_add_u64(t.refused, t.accepted);
     show(name, std::num::wrapping_add_u64(t.broken, kept));
     show(b" broken ", t.broken);
-    show_rest(t)
+    show_rest(t);
+    std::num::wrapping_add_u64(wrong, t.wrong)
 }
 
 // The last line.
