@@ -31,7 +31,6 @@ use replay::logs;
 use replay::logs::Logged;
 use trials::again;
 use trials::answers::came_back;
-use trials::answers::same_answer;
 use trials::answers::without_value;
 use trials::copies::copied;
 use trials::entries;
@@ -139,27 +138,11 @@ fn beyonds(t: Tally, k: Kernel, log: &[u8], used: usize) -> Tally {
 
 // ---- the run
 
-// An accepted record's call on k came back with l: the answer is the one that its note tells, and the undo gives k back.
-fn on_accepted(k: Kernel, l: Logged, log: &[u8], from: usize) -> bool {
-    let to = l.used;
-    if to < from {
-        return false;
-    }
-    if log.len() < to {
-        return false;
-    }
-    let state = l.kernel;
-    if !same_answer(l.answer, again::noted_answer(&log[from..to], state.runner)) {
-        return false;
-    }
-    entries::undone_to(l, log, k, from)
-}
-
 // The record's own call came back with l: an accepted one is undone, a refused one left all as it was.
 fn on_record(k: Kernel, l: Logged, log: &[u8], from: usize) -> Outcome {
     let number = l.answer.number;
     if number == 0 {
-        return ended(0, on_accepted(k, l, log, from));
+        return ended(0, entries::accepted(l, log, k, from));
     }
     ended(
         number,

@@ -33,11 +33,27 @@ pub fn refused(k: Kernel, bytes: [u8; 16], log: &mut [u8], used: usize, a: Answe
 }
 
 // An accepted call came back with l: whether its undo gives the state and the used length before it.
-pub fn undone_to(l: Logged, log: &[u8], k: Kernel, used: usize) -> bool
+fn undone_to(l: Logged, log: &[u8], k: Kernel, used: usize) -> bool
     ensures { λ r. ⌜ r ≡ cameBack (undone (l .kernel) (now (log .entry)) (l .used)) (answer 0 255 (k .runner)) k used ⌝ }
 {
     let u = undos::undo(l.kernel, log, l.used);
     came_back(u, without_value(0, k.runner), k, used)
+}
+
+// An accepted call on k came back with l: its answer is the one that its note tells, and the undo gives k back.
+pub fn accepted(l: Logged, log: &[u8], k: Kernel, used: usize) -> bool {
+    let end = l.used;
+    if end < used {
+        return false;
+    }
+    if log.len() < end {
+        return false;
+    }
+    let state = l.kernel;
+    if !same_answer(l.answer, again::noted_answer(&log[used..end], state.runner)) {
+        return false;
+    }
+    undone_to(l, log, k, used)
 }
 
 // An undo that accepted: what it took off the log is a note that the state which it gave back yields.
