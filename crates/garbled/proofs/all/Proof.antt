@@ -1,12 +1,11 @@
 use Prim.Native.Nat.{_≤_, _-_}
-use mathlib.Core.Path.{_≡_}
 use lib.ListN.{length}
 use borrow.Author.Needs.{needs}
 use Rattle.garbled.proofs.all.Statement.{statement}
 use Rattle.garbled.proofs.all.Tie as tie
 
 abbrev Inv-loop : tie.InvT-loop
-Inv-loop s log₀ copy₀ run₀ at₀ log copy run at = (at ≤ length s) × (length log ≡ length log₀) × (length copy ≡ length copy₀)
+Inv-loop s log₀ copy₀ run₀ at₀ log copy run at = (at ≤ length s)
 
 abbrev μ-loop : tie.MeasureT-loop
 μ-loop s log₀ copy₀ run₀ at₀ log copy run at = length s - at
@@ -44,12 +43,6 @@ loop-less c = search needs
 loop-again : tie.Need-loop-again Inv-loop μ-loop
 loop-again c = search needs
 
-same-length : tie.Need-same-length Inv-loop μ-loop
-same-length c = search needs
-
-same-length-2 : tie.Need-same-length-2 Inv-loop μ-loop
-same-length-2 c = search needs
-
 returns : tie.Need-returns Inv-loop μ-loop
 returns c = search needs
 
@@ -70,6 +63,4 @@ all-spec =
     next-requires
     loop-less
     loop-again
-    same-length
-    same-length-2
     returns)

@@ -1,12 +1,10 @@
 use Prim.Native.Nat.{_-_}
-use mathlib.Core.Path.{_≡_}
-use lib.ListN.{length}
 use borrow.Author.Needs.{needs}
 use Rattle.garbled.proofs.flips.Statement.{statement}
 use Rattle.garbled.proofs.flips.Tie as tie
 
 abbrev Inv-loop : tie.InvT-loop
-Inv-loop k log₀ at next₀ bit₀ end log next bit = length log ≡ length log₀
+Inv-loop k log₀ at next₀ bit₀ end log next bit = Unit {0}
 
 abbrev μ-loop : tie.MeasureT-loop
 μ-loop k log₀ at next₀ bit₀ end log next bit = end - bit
@@ -29,9 +27,6 @@ loop-less c = search needs
 loop-again : tie.Need-loop-again Inv-loop μ-loop
 loop-again c = search needs
 
-same-length : tie.Need-same-length Inv-loop μ-loop
-same-length c = search needs
-
 returns : tie.Need-returns Inv-loop μ-loop
 returns c = search needs
 
@@ -47,5 +42,4 @@ flips-spec =
     add-bit
     loop-less
     loop-again
-    same-length
     returns)

@@ -6,10 +6,13 @@ use Rattle.garbled.proofs.fulls.Statement.{statement}
 use Rattle.garbled.proofs.fulls.Tie as tie
 
 abbrev Inv-loop : tie.InvT-loop
-Inv-loop k bytes log₀ copy at next₀ m₀ log next m = length log ≡ length log₀
+Inv-loop k bytes log₀ copy at a next₀ m₀ log next m = length log ≡ length log₀
 
 abbrev μ-loop : tie.MeasureT-loop
-μ-loop k bytes log₀ copy at next₀ m₀ log next m = at .to - m
+μ-loop k bytes log₀ copy at a next₀ m₀ log next m = at .to - m
+
+without-value-requires : tie.Need-without-value-requires Inv-loop μ-loop
+without-value-requires c κs = search needs
 
 loop-holds : tie.Need-loop-holds Inv-loop μ-loop
 loop-holds c = search needs
@@ -23,17 +26,17 @@ same-length c = search needs
 returns : tie.Need-returns Inv-loop μ-loop
 returns c = search needs
 
-sub-on-full : tie.Need-sub-on-full Inv-loop μ-loop
-sub-on-full c = search needs
+sub-refused : tie.Need-sub-refused Inv-loop μ-loop
+sub-refused c = search needs
 
-part-on-full-start : tie.Need-part-on-full-start Inv-loop μ-loop
-part-on-full-start c = search needs
+part-refused-start : tie.Need-part-refused-start Inv-loop μ-loop
+part-refused-start c = search needs
 
-part-on-full-end : tie.Need-part-on-full-end Inv-loop μ-loop
-part-on-full-end c = search needs
+part-refused-end : tie.Need-part-refused-end Inv-loop μ-loop
+part-refused-end c = search needs
 
-on-full-requires : tie.Need-on-full-requires Inv-loop μ-loop
-on-full-requires c κs = search needs
+refused-requires : tie.Need-refused-requires Inv-loop μ-loop
+refused-requires c κs = search needs
 
 counted-requires : tie.Need-counted-requires Inv-loop μ-loop
 counted-requires c κs = search needs
@@ -65,14 +68,15 @@ fulls-spec =
     (tie.spec
     Inv-loop
     μ-loop
+    without-value-requires
     loop-holds
     checked-requires
     same-length
     returns
-    sub-on-full
-    part-on-full-start
-    part-on-full-end
-    on-full-requires
+    sub-refused
+    part-refused-start
+    part-refused-end
+    refused-requires
     counted-requires
     add-m
     loop-less

@@ -1,24 +1,17 @@
 use Prim.Native.Nat.{_≤_, _-_}
-use mathlib.Core.Path.{_≡_}
 use lib.ListN.{length}
 use borrow.Author.Needs.{needs}
 use Rattle.harmed.proofs.all.Statement.{statement}
 use Rattle.harmed.proofs.all.Tie as tie
 
 abbrev Inv-loop : tie.InvT-loop
-Inv-loop s log₀ copy₀ h₀ l₀ at₀ log copy h l at = (at ≤ length s) × (length log ≡ 16384) × (length copy ≡ 16384)
+Inv-loop s log₀ copy₀ run₀ at₀ log copy run at = (at ≤ length s)
 
 abbrev μ-loop : tie.MeasureT-loop
-μ-loop s log₀ copy₀ h₀ l₀ at₀ log copy h l at = length s - at
+μ-loop s log₀ copy₀ run₀ at₀ log copy run at = length s - at
 
-unharmed-requires : tie.Need-unharmed-requires Inv-loop μ-loop
-unharmed-requires c κs = search needs
-
-fresh-requires : tie.Need-fresh-requires Inv-loop μ-loop
-fresh-requires c κs = search needs
-
-answer-requires : tie.Need-answer-requires Inv-loop μ-loop
-answer-requires c κs = search needs
+started-requires : tie.Need-started-requires Inv-loop μ-loop
+started-requires c κs = search needs
 
 loop-holds : tie.Need-loop-holds Inv-loop μ-loop
 loop-holds c = search needs
@@ -41,35 +34,8 @@ record-in-requires c κs = search needs
 add-at : tie.Need-add-at Inv-loop μ-loop
 add-at c = search needs
 
-slice-aggregate-trials : tie.Need-slice-aggregate-trials Inv-loop μ-loop
-slice-aggregate-trials c = search needs
-
-slice-aggregate-trials-2 : tie.Need-slice-aggregate-trials-2 Inv-loop μ-loop
-slice-aggregate-trials-2 c = search needs
-
-trials-requires : tie.Need-trials-requires Inv-loop μ-loop
-trials-requires c κs = search needs
-
-slice-aggregate-called : tie.Need-slice-aggregate-called Inv-loop μ-loop
-slice-aggregate-called c = search needs
-
-called-requires : tie.Need-called-requires Inv-loop μ-loop
-called-requires c κs = search needs
-
-slice-aggregate-copied : tie.Need-slice-aggregate-copied Inv-loop μ-loop
-slice-aggregate-copied c = search needs
-
-slice-aggregate-copied-2 : tie.Need-slice-aggregate-copied-2 Inv-loop μ-loop
-slice-aggregate-copied-2 c = search needs
-
-copied-requires : tie.Need-copied-requires Inv-loop μ-loop
-copied-requires c κs = search needs
-
-tallied-requires : tie.Need-tallied-requires Inv-loop μ-loop
-tallied-requires c κs = search needs
-
-judged-requires : tie.Need-judged-requires Inv-loop μ-loop
-judged-requires c κs = search needs
+next-requires : tie.Need-next-requires Inv-loop μ-loop
+next-requires c κs = search needs
 
 loop-less : tie.Need-loop-less Inv-loop μ-loop
 loop-less c = search needs
@@ -86,9 +52,7 @@ all-spec =
     (tie.spec
     Inv-loop
     μ-loop
-    unharmed-requires
-    fresh-requires
-    answer-requires
+    started-requires
     loop-holds
     sub-loop
     sub-record-in
@@ -96,16 +60,7 @@ all-spec =
     part-record-in-end
     record-in-requires
     add-at
-    slice-aggregate-trials
-    slice-aggregate-trials-2
-    trials-requires
-    slice-aggregate-called
-    called-requires
-    slice-aggregate-copied
-    slice-aggregate-copied-2
-    copied-requires
-    tallied-requires
-    judged-requires
+    next-requires
     loop-less
     loop-again
     returns)

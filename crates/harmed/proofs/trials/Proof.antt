@@ -1,12 +1,10 @@
 use Prim.Native.Nat.{_≤_, _-_}
-use mathlib.Core.Path.{_≡_}
-use lib.ListN.{length}
 use borrow.Author.Needs.{needs}
 use Rattle.harmed.proofs.trials.Statement.{statement}
 use Rattle.harmed.proofs.trials.Tie as tie
 
 abbrev Inv-loop : tie.InvT-loop
-Inv-loop k bytes log₀ copy used next₀ field₀ log next field = (field ≤ 33) × (length log ≡ length log₀)
+Inv-loop k bytes log₀ copy used next₀ field₀ log next field = field ≤ 33
 
 abbrev μ-loop : tie.MeasureT-loop
 μ-loop k bytes log₀ copy used next₀ field₀ log next field = 33 - field
@@ -26,9 +24,6 @@ loop-less c = search needs
 loop-again : tie.Need-loop-again Inv-loop μ-loop
 loop-again c = search needs
 
-same-length : tie.Need-same-length Inv-loop μ-loop
-same-length c = search needs
-
 returns : tie.Need-returns Inv-loop μ-loop
 returns c = search needs
 
@@ -43,5 +38,4 @@ trials-spec =
     add-field
     loop-less
     loop-again
-    same-length
     returns)

@@ -1,0 +1,63 @@
+// The call that a note tells of: made again with an empty log of its own.
+ghost use mathlib.Core.Path.{_≡_};
+ghost use lib.ListN.{replicate};
+ghost use Rattle.answers.specs.Logs.{calledWith};
+use crate::returned::came_back;
+use answers::Answer;
+use answers::Logged;
+use coding::bytes::byte_at;
+use coding::bytes::same_bytes;
+use kernel::records::Kernel;
+use reading::frames;
+use reading::frames::Decoded;
+use reading::frames::Part;
+use reading::last;
+use replay::logs;
+
+// The call with an empty log, which has room for any note.
+pub fn apart(k: Kernel, bytes: [u8; 16]) -> Logged
+    ensures { λ r. ⌜ r ≡ calledWith k bytes (replicate 4096 0) 0 ⌝ }
+{
+    let mut own = [0u8; 4096];
+    logs::called(k, bytes, &mut own, 0)
+}
+
+// The id in front of a section, 255 for an empty one.
+fn first_id(note: &[u8], p: Part) -> u8 {
+    if p.to <= p.from {
+        return 255;
+    }
+    byte_at(note, p.from)
+}
+
+// The value of the call that a note tells of: the id of what it created, or of the message that it took, is the first of its section.
+fn value_in(note: &[u8]) -> u8 {
+    let Decoded::Sections(f) = frames::frames_of(note) else {
+        return 255;
+    };
+    match byte_at(note, 0) {
+        2 => first_id(note, f.threads),
+        14 => first_id(note, f.semaphores),
+        24 | 27 => first_id(note, f.messages),
+        _ => 255,
+    }
+}
+
+// The answer of the accepted call that a note tells of, after which `runner` runs.
+pub fn noted_answer(note: &[u8], runner: u8) -> Answer {
+    Answer {
+        number: 0,
+        value: value_in(note),
+        runner: runner,
+    }
+}
+
+// Whether the note's record on a state yields this end state and this very note, with the answer that the note tells.
+pub fn yields(old: Kernel, note: &[u8], end: Kernel) -> bool {
+    let mut own = [0u8; 4096];
+    let l = logs::called(old, last::record_in(note), &mut own, 0);
+    if !came_back(l, noted_answer(note, end.runner), end, note.len()) {
+        return false;
+    }
+    same_bytes(&own, 0, note)
+}

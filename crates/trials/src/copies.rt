@@ -1,0 +1,18 @@
+// The copy of a log, by which a byte that was written beside a note shows.
+use coding::bytes::same_bytes;
+use coding::pens;
+
+// What stands between two places of one is copied to the other; whether both are the same then.
+pub fn copied(target: &mut [u8], source: &[u8], from: usize, to: usize) -> bool {
+    if to < from {
+        return false;
+    }
+    if to == from {
+        return same_bytes(target, 0, source);
+    }
+    if source.len() < to {
+        return false;
+    }
+    pens::put_all(target, from, &source[from..to]);
+    same_bytes(target, 0, source)
+}
