@@ -258,9 +258,10 @@ fn shown(h: Harm, used: usize) {
     let d = report::line(b"short ", h.short, c);
     let e = report::line(b"flipped ", h.flipped, d);
     let wrong = report::line(b"beyond ", h.beyond, e);
-    report::show(b"used ", used as u64);
+    io::write_all(1, b"used ");
+    io::print_decimal(1, used as u64);
     io::write_all(1, b"\n");
-    report::last_line(wrong)
+    report::verdict(wrong);
 }
 
 // The run on arrays, which are lent whole.

@@ -15,6 +15,8 @@
 // A line for the records of the run and one for the damaged states: how many were tried, and how many of them were broken (14),
 // refused for another reason, and accepted. A state has 33 fields (damage::FIELDS): 33 times the number of records is tried. The last line
 // has all wrong ones; it must be 0. How many are broken, refused or accepted depends on what was drawn.
+mod damage;
+
 use answers::Logged;
 use kernel::records::Kernel;
 use reading::last;
@@ -225,7 +227,7 @@ fn all(s: &[u8], log: &mut [u8; 16384], copy: &mut [u8; 16384]) -> Run {
 // The lines.
 fn shown(records: Tally, states: Tally) {
     let some = report::line_of_states(b"records ", records, 0);
-    report::last_line(report::line_of_states(b"states ", states, some))
+    report::verdict(report::line_of_states(b"states ", states, some));
 }
 
 // The run on arrays, which are lent whole.

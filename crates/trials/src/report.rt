@@ -1,10 +1,11 @@
 // The lines of a program that tries.
 ghost use mathlib.Core.Path.{_≡_};
 ghost use Prim.Native.Nat.{_+_, _%_, _^_};
+ghost use lib.Dec.{eqb};
 use crate::tallies::Tally;
 
 // A name, and a number behind it.
-pub fn show(name: &[u8], n: u64) {
+fn show(name: &[u8], n: u64) {
     io::write_all(1, name);
     io::print_decimal(1, n);
 }
@@ -36,8 +37,11 @@ pub fn line_of_states(name: &[u8], t: Tally, wrong: u64) -> u64
     std::num::wrapping_add_u64(wrong, t.wrong)
 }
 
-// The last line.
-pub fn last_line(wrong: u64) {
+// The last line, and whether nothing was wrong.
+pub fn verdict(wrong: u64) -> bool
+    ensures { λ r. ⌜ r ≡ eqb wrong 0 ⌝ }
+{
     show(b"wrong ", wrong);
     io::write_all(1, b"\n");
+    wrong == 0
 }
