@@ -8,8 +8,9 @@
 // runner 255, the damaged state and the used length as they were, from append an empty part, with room and without. Where no rule is
 // broken: with the log the same answer and the same state as with a log of its own, or 13 where the used length is beyond the log; a
 // refusal with value 255, the runner, the state and the used length as they were; from an accepted call the value that its note tells and
-// the next state's runner, and then from an undo number 0, value 255 and the damaged state to the last field; from append a part as long as the note. After every trial the log is to the last
-// byte what it was, but for the note of an accepted call between the used lengths before and after.
+// the next state's runner, and then from an undo number 0, value 255 and the damaged state to the last field; from append a part as long
+// as the note. After every trial the log is to the last byte what it was, but for the note of an accepted call between the used lengths
+// before and after.
 // A trial in which anything else comes back is wrong, and counted once. So is a record of the run that wrote more than its note.
 //
 // A line for the records of the run and one for the damaged states: how many were tried, and how many of them were broken (14),

@@ -1,2 +1,4 @@
 pub mod Returned
 pub mod Tallies
+pub mod Entries
+pub mod Copies

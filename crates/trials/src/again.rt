@@ -1,7 +1,10 @@
 // The call that a note tells of: made again with an empty log of its own.
 ghost use mathlib.Core.Path.{_≡_};
 ghost use lib.ListN.{replicate};
+ghost use Rattle.queue.specs.Lists.{firstOf};
+ghost use Rattle.answers.specs.Steps.{answer};
 ghost use Rattle.answers.specs.Logs.{calledWith};
+ghost use Rattle.trials.specs.Entries.{valueIn, yieldsNote};
 use crate::returned::came_back;
 use answers::Answer;
 use answers::Logged;
@@ -10,7 +13,6 @@ use coding::bytes::same_bytes;
 use kernel::records::Kernel;
 use reading::frames;
 use reading::frames::Decoded;
-use reading::frames::Part;
 use reading::last;
 use replay::logs;
 
@@ -22,29 +24,35 @@ pub fn apart(k: Kernel, bytes: [u8; 16]) -> Logged
     logs::called(k, bytes, &mut own, 0)
 }
 
-// The id in front of a section, 255 for an empty one.
-fn first_id(note: &[u8], p: Part) -> u8 {
-    if p.to <= p.from {
+// The first byte, 255 where there is none.
+fn first_of(part: &[u8]) -> u8
+    ensures { λ r. ⌜ r ≡ firstOf (now (part .entry)) ⌝ }
+{
+    if part.len() == 0 {
         return 255;
     }
-    byte_at(note, p.from)
+    part[0]
 }
 
 // The value of the call that a note tells of: the id of what it created, or of the message that it took, is the first of its section.
-fn value_in(note: &[u8]) -> u8 {
+fn value_in(note: &[u8]) -> u8
+    ensures { λ r. ⌜ r ≡ valueIn (now (note .entry)) ⌝ }
+{
     let Decoded::Sections(f) = frames::frames_of(note) else {
         return 255;
     };
     match byte_at(note, 0) {
-        2 => first_id(note, f.threads),
-        14 => first_id(note, f.semaphores),
-        24 | 27 => first_id(note, f.messages),
+        2 => first_of(frames::part_of(note, f.threads)),
+        14 => first_of(frames::part_of(note, f.semaphores)),
+        24 | 27 => first_of(frames::part_of(note, f.messages)),
         _ => 255,
     }
 }
 
 // The answer of the accepted call that a note tells of, after which `runner` runs.
-pub fn noted_answer(note: &[u8], runner: u8) -> Answer {
+pub fn noted_answer(note: &[u8], runner: u8) -> Answer
+    ensures { λ r. ⌜ r ≡ answer 0 (valueIn (now (note .entry))) runner ⌝ }
+{
     Answer {
         number: 0,
         value: value_in(note),
@@ -53,7 +61,9 @@ pub fn noted_answer(note: &[u8], runner: u8) -> Answer {
 }
 
 // Whether the note's record on a state yields this end state and this very note, with the answer that the note tells.
-pub fn yields(old: Kernel, note: &[u8], end: Kernel) -> bool {
+pub fn yields(old: Kernel, note: &[u8], end: Kernel) -> bool
+    ensures { λ r. ⌜ r ≡ yieldsNote old (now (note .entry)) end ⌝ }
+{
     let mut own = [0u8; 4096];
     let l = logs::called(old, last::record_in(note), &mut own, 0);
     if !came_back(l, noted_answer(note, end.runner), end, note.len()) {

@@ -1,9 +1,13 @@
 // The copy of a log, by which a byte that was written beside a note shows.
+ghost use mathlib.Core.Path.{_≡_};
+ghost use Rattle.trials.specs.Copies.{copiedTo, areSame};
 use coding::bytes::same_bytes;
 use coding::pens;
 
 // What stands between two places of one is copied to the other; whether both are the same then.
-pub fn copied(target: &mut [u8], source: &[u8], from: usize, to: usize) -> bool {
+pub fn copied(target: &mut [u8], source: &[u8], from: usize, to: usize) -> bool
+    ensures { λ r. ⌜ (now (target .exit) ≡ copiedTo (now (target .entry)) (now (source .entry)) from to) × (r ≡ areSame (now (target .entry)) (now (source .entry)) from to) ⌝ }
+{
     if to < from {
         return false;
     }

@@ -4,6 +4,7 @@ ghost use lib.ListN.{length};
 ghost use Rattle.answers.specs.Steps.{answer};
 ghost use Rattle.answers.specs.Logs.{partCalled, undone};
 ghost use Rattle.trials.specs.Returned.{cameBack};
+ghost use Rattle.trials.specs.Entries.{acceptedAs, undoneAs, undoTried, refusedAs};
 use crate::again;
 use crate::returned::came_back;
 use crate::returned::same_answer;
@@ -24,7 +25,9 @@ pub fn appended(k: Kernel, bytes: [u8; 16], log: &mut [u8], used: usize) -> usiz
 }
 
 // A call that must be refused with this answer: the state and the used length as they were, and nothing is appended.
-pub fn refused(k: Kernel, bytes: [u8; 16], log: &mut [u8], used: usize, a: Answer) -> Outcome {
+pub fn refused(k: Kernel, bytes: [u8; 16], log: &mut [u8], used: usize, a: Answer) -> Outcome
+    ensures { λ r. ⌜ r ≡ refusedAs k bytes (now (log .entry)) used a ⌝ }
+{
     let l = logs::called(k, bytes, log, used);
     if appended(k, bytes, log, used) != 0 {
         return ended(0, false);
@@ -41,7 +44,9 @@ fn undone_to(l: Logged, log: &[u8], k: Kernel, used: usize) -> bool
 }
 
 // An accepted call on k came back with l: its answer is the one that its note tells, and the undo gives k back.
-pub fn accepted(l: Logged, log: &[u8], k: Kernel, used: usize) -> bool {
+pub fn accepted(l: Logged, log: &[u8], k: Kernel, used: usize) -> bool
+    ensures { λ r. ⌜ r ≡ acceptedAs l (now (log .entry)) k used ⌝ }
+{
     let end = l.used;
     if end < used {
         return false;
@@ -57,7 +62,9 @@ pub fn accepted(l: Logged, log: &[u8], k: Kernel, used: usize) -> bool {
 }
 
 // An undo that accepted: what it took off the log is a note that the state which it gave back yields.
-fn undone(u: Logged, k: Kernel, log: &[u8], used: usize) -> bool {
+fn undone(u: Logged, k: Kernel, log: &[u8], used: usize) -> bool
+    ensures { λ r. ⌜ r ≡ undoneAs u k (now (log .entry)) used ⌝ }
+{
     let before = u.used;
     if used < before {
         return false;
@@ -73,7 +80,9 @@ fn undone(u: Logged, k: Kernel, log: &[u8], used: usize) -> bool {
 }
 
 // An undo on a state that keeps its rules, with any log and any used length.
-pub fn undo(k: Kernel, log: &[u8], used: usize) -> Outcome {
+pub fn undo(k: Kernel, log: &[u8], used: usize) -> Outcome
+    ensures { λ r. ⌜ r ≡ undoTried k (now (log .entry)) used ⌝ }
+{
     let u = undos::undo(k, log, used);
     let number = u.answer.number;
     if number == 0 {
