@@ -11,7 +11,7 @@ use queue::Queue;
 
 // Threads have 7 fields, semaphores 5, events 3, messages 7, the tables 6 (length and one place of each of three), and the state 5 more
 // (bits, uptime, two levels, runner).
-pub const FIELDS: u8 = 33;
+pub(crate) const FIELDS: u8 = 33;
 
 // One damage: the field's number, the id or place, and the value.
 struct Damage {
@@ -21,7 +21,7 @@ struct Damage {
 }
 
 // The generator's next number.
-pub fn thrown(dice: u64) -> u64 {
+pub(crate) fn thrown(dice: u64) -> u64 {
     let a = dice ^ (dice << 13);
     let b = a ^ (a >> 7);
     b ^ (b << 17)
@@ -165,7 +165,7 @@ fn with_numbers(mut k: Kernel, d: Damage) -> Kernel {
 }
 
 // The state with one field struck, by the generator's number.
-pub fn damaged(k: Kernel, field: u8, r: u64) -> Kernel {
+pub(crate) fn damaged(k: Kernel, field: u8, r: u64) -> Kernel {
     let d = damage_of(field, r);
     with_numbers(with_tables(with_records(k, d), d), d)
 }
