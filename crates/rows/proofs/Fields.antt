@@ -1,7 +1,7 @@
 -- A field of a row that is cut to its widths; and two rows are the same where no field of one is flagged beside the other.
 use Prim.Native.Nat.{ℕ, zero, suc, _+_, _*_, _%_, _^_}
 use mathlib.Core.Path.{_≡_, refl, sym, _∙_}
-use mathlib.Core.Bool.{Bool, true, false, cond, _&&_}
+use mathlib.Core.Bool.{Bool, true, false, cond, _&&_, and-false}
 use mathlib.Core.List.{List, [], _∷_}
 use native.Mathlib.Nat.{zero-mod}
 use native.Mathlib.Omega.{arith}
@@ -33,3 +33,11 @@ same-flags (o ∷ os) (p ∷ ps) e = go (eqb o p) (same-flags os ps (omega arith
     go : (b : Bool) → eqb (flagsOf os ps) 0 ≡ sameRow os ps → eqb (cond b 0 1 + 2 * flagsOf os ps) 0 ≡ (b && sameRow os ps)
     go true h = twice (flagsOf os ps) ∙ h
     go false h = ne-eqb (1 + 2 * flagsOf os ps) 0 (λ z. omega arith)
+
+-- and two rows differ where a field does
+pub row-other : (xs ys : List ℕ) (i : ℕ) → length xs ≡ length ys → (getD xs i 0 ≡ getD ys i 0 → ⊥) → sameRow xs ys ≡ false
+row-other [] [] i e h = absurd (h refl)
+row-other [] (y ∷ ys) i e h = refl
+row-other (x ∷ xs) [] i e h = refl
+row-other (x ∷ xs) (y ∷ ys) zero e h = rw (ne-eqb x y h)
+row-other (x ∷ xs) (y ∷ ys) (suc i) e h = rw (row-other xs ys i (omega arith) h, and-false)

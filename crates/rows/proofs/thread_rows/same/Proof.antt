@@ -1,10 +1,21 @@
--- `rows::thread_rows::same` meets its contract: the first field that differs decides.
-use mathlib.Core.Bool.{and-true}
+-- `rows::thread_rows::same` meets its contract: a code or a field that differs decides.
+use Prim.Native.Nat.{ℕ}
+use mathlib.Core.Path.{_≡_, refl, sym, _∙_}
+use mathlib.Core.Bool.{false, and-true, and-false}
+use lib.ListN.{getD}
 use borrow.Author.Needs.{needs}
 use borrow.Author.Tests.{eq-eqb, ne-eqb}
+use Rattle.kernel.specs.declared.records.Thread.{Thread}
+use Rattle.notes.specs.Rows.{threadRow}
 use Rattle.notes.specs.Touched.{sameThread}
+use Rattle.rows.proofs.Fields.{row-other}
 use Rattle.rows.proofs.thread_rows.same.Statement.{statement}
 use Rattle.rows.proofs.thread_rows.same.Tie as tie
+
+-- field i of their rows differs
+other : (r s : Thread) (i : ℕ) → (getD (threadRow r 0 0) i 0 ≡ getD (threadRow s 0 0) i 0 → ⊥) → false ≡ sameThread r s
+unfolding sameThread
+other r s i h = sym (rw (row-other (threadRow r 0 0) (threadRow s 0 0) i refl h, and-false))
 
 code-of-requires : tie.Need-code-of-requires
 code-of-requires c κs = search needs
@@ -14,33 +25,13 @@ code-of-requires-2 c κs = search needs
 
 returns : tie.Need-returns
 unfolding sameThread
-returns c =
-    rw (
-      ← c .before .before .code-of .ensures,
-      ← c .before .code-of2 .ensures,
-      ne-eqb _ _ (c .if1 .taken),
-    )
+returns c = rw (← c .before .before .code-of .ensures, ← c .before .code-of2 .ensures, ne-eqb _ _ (c .if1 .taken))
 
 returns-2 : tie.Need-returns-2
-unfolding sameThread
-returns-2 c =
-    rw (
-      ← c .before .before .before .before .before .code-of .ensures,
-      ← c .before .before .before .before .code-of2 .ensures,
-      eq-eqb _ _ (c .before .before .before .if1 .left),
-      ne-eqb _ _ (c .if2 .taken),
-    )
+returns-2 c = let a = c .before .before .before .before .before .before .args in other (a .r) (a .s) 0 (c .if2 .taken)
 
 returns-3 : tie.Need-returns-3
-unfolding sameThread
-returns-3 c =
-    rw (
-      ← c .before .before .before .before .before .before .before .before .code-of .ensures,
-      ← c .before .before .before .before .before .before .before .code-of2 .ensures,
-      eq-eqb _ _ (c .before .before .before .before .before .before .if1 .left),
-      eq-eqb _ _ (c .before .before .before .if2 .left),
-      ne-eqb _ _ (c .if3 .taken),
-    )
+returns-3 c = let a = c .before .before .before .before .before .before .before .before .before .args in other (a .r) (a .s) 1 (c .if3 .taken)
 
 data-of-requires : tie.Need-data-of-requires
 data-of-requires c κs = search needs
@@ -49,33 +40,10 @@ data-of-requires-2 : tie.Need-data-of-requires-2
 data-of-requires-2 c κs = search needs
 
 returns-4 : tie.Need-returns-4
-unfolding sameThread
-returns-4 c =
-    rw (
-      ← c .before .before .before .before .before .before .before .before .before .before .before .code-of .ensures,
-      ← c .before .before .before .before .before .before .before .before .before .before .code-of2 .ensures,
-      eq-eqb _ _ (c .before .before .before .before .before .before .before .before .before .if1 .left),
-      eq-eqb _ _ (c .before .before .before .before .before .before .if2 .left),
-      eq-eqb _ _ (c .before .before .before .if3 .left),
-      ← c .before .before .data-of .ensures,
-      ← c .before .data-of2 .ensures,
-      ne-eqb _ _ (c .if4 .taken),
-    )
+returns-4 c = let a = c .before .before .before .before .before .before .before .before .before .before .before .before .args in other (a .r) (a .s) 2 (λ e. c .if4 .taken (c .before .before .data-of .ensures ∙ e ∙ sym (c .before .data-of2 .ensures)))
 
 returns-5 : tie.Need-returns-5
-unfolding sameThread
-returns-5 c =
-    rw (
-      ← c .before .before .before .before .before .before .before .before .before .before .before .before .before .before .code-of .ensures,
-      ← c .before .before .before .before .before .before .before .before .before .before .before .before .before .code-of2 .ensures,
-      eq-eqb _ _ (c .before .before .before .before .before .before .before .before .before .before .before .before .if1 .left),
-      eq-eqb _ _ (c .before .before .before .before .before .before .before .before .before .if2 .left),
-      eq-eqb _ _ (c .before .before .before .before .before .before .if3 .left),
-      ← c .before .before .before .before .before .data-of .ensures,
-      ← c .before .before .before .before .data-of2 .ensures,
-      eq-eqb _ _ (c .before .before .before .if4 .left),
-      ne-eqb _ _ (c .if5 .taken),
-    )
+returns-5 c = let a = c .before .before .before .before .before .before .before .before .before .before .before .before .before .before .before .args in other (a .r) (a .s) 3 (c .if5 .taken)
 
 wake-code-requires : tie.Need-wake-code-requires
 wake-code-requires c κs = search needs
@@ -84,22 +52,7 @@ wake-code-requires-2 : tie.Need-wake-code-requires-2
 wake-code-requires-2 c κs = search needs
 
 returns-6 : tie.Need-returns-6
-unfolding sameThread
-returns-6 c =
-    rw (
-      ← c .before .before .before .before .before .before .before .before .before .before .before .before .before .before .before .before .before .code-of .ensures,
-      ← c .before .before .before .before .before .before .before .before .before .before .before .before .before .before .before .before .code-of2 .ensures,
-      eq-eqb _ _ (c .before .before .before .before .before .before .before .before .before .before .before .before .before .before .before .if1 .left),
-      eq-eqb _ _ (c .before .before .before .before .before .before .before .before .before .before .before .before .if2 .left),
-      eq-eqb _ _ (c .before .before .before .before .before .before .before .before .before .if3 .left),
-      ← c .before .before .before .before .before .before .before .before .data-of .ensures,
-      ← c .before .before .before .before .before .before .before .data-of2 .ensures,
-      eq-eqb _ _ (c .before .before .before .before .before .before .if4 .left),
-      eq-eqb _ _ (c .before .before .before .if5 .left),
-      ← c .before .before .wake-code .ensures,
-      ← c .before .wake-code2 .ensures,
-      ne-eqb _ _ (c .if6 .taken),
-    )
+returns-6 c = let a = c .before .before .before .before .before .before .before .before .before .before .before .before .before .before .before .before .before .before .args in other (a .r) (a .s) 4 (λ e. c .if6 .taken (c .before .before .wake-code .ensures ∙ e ∙ sym (c .before .wake-code2 .ensures)))
 
 returns-7 : tie.Need-returns-7
 unfolding sameThread
