@@ -9,27 +9,27 @@ use lib.ListN.{length, take, drop, replicate, length-append, length-replicate, d
 use lib.Seq.{take-at}
 use borrow.Author.Tests.{eqb-true, eq-eqb, lt-ltb, le-leb, ltb-true, ltb-false, leb-true}
 use borrow.Table.Steps.{cases}
-use Rattle.coding.specs.Bytes.{un}
-use Rattle.coding.proofs.Appending.{noted-room}
-use Rattle.kernel.specs.declared.records.Kernel.{Kernel}
-use Rattle.rules.specs.Tests.{keepsRules}
-use Rattle.calls.specs.declared.call.Call.{Call}
-use Rattle.calls.specs.Calls.{callOf}
-use Rattle.calls.specs.Refusals.{numberOf}
-use Rattle.effects.specs.Effects.{valueOf}
-use Rattle.notes.specs.Touched.{sameRow}
-use Rattle.notes.specs.Same.{sameKernel}
-use Rattle.notes.specs.Back.{Sections, stateBefore}
-use Rattle.notes.specs.Frames.{nothing, sections, isWhole, framesFrom, framesOf}
-use Rattle.notes.specs.Undo.{lastLength, hasLast, lastNote}
-use Rattle.notes.specs.Undoes.{recordIn, backFrom, isDecoded, levelsFit, yieldsAgain, undoesNote, undoes}
-use Rattle.notes.proofs.SpansOfCalls.{note-in}
-use Rattle.noting.proofs.Fronts.{note-short}
-use Rattle.reading.specs.declared.state_back.Back.{Back}
-use Rattle.reading.specs.Restored.{backOf}
-use Rattle.answers.specs.declared.Logged.{Logged}
-use Rattle.answers.specs.Steps.{answer}
-use Rattle.answers.specs.Logs.{logged, nextOf, noteFor, recorded, logAfter, undone}
+use Rattle.base_bytes.specs.Bytes.{un}
+use Rattle.base_bytes.proofs.Appending.{noted-room}
+use Rattle.spec_kernel.specs.declared.records.Kernel.{Kernel}
+use Rattle.spec_rules.specs.Tests.{keepsRules}
+use Rattle.spec_calls.specs.declared.call.Call.{Call}
+use Rattle.spec_calls.specs.Calls.{callOf}
+use Rattle.spec_refusals.specs.Refusals.{numberOf}
+use Rattle.spec_effects.specs.Effects.{valueOf}
+use Rattle.spec_notes.specs.Touched.{sameRow}
+use Rattle.spec_notes.specs.Same.{sameKernel}
+use Rattle.spec_notes.specs.Back.{Sections, stateBefore}
+use Rattle.spec_notes.specs.Frames.{nothing, sections, isWhole, framesFrom, framesOf}
+use Rattle.spec_notes.specs.Undo.{lastLength, hasLast, lastNote}
+use Rattle.spec_notes.specs.Undoes.{recordIn, backFrom, isDecoded, levelsFit, yieldsAgain, undoesNote, undoes}
+use Rattle.code_notes.proofs.SpansOfCalls.{note-in}
+use Rattle.code_notes.proofs.Fronts.{note-short}
+use Rattle.code_notes_back.specs.declared.state_back.Back.{Back}
+use Rattle.code_notes_back.specs.Restored.{backOf}
+use Rattle.spec_answers.specs.declared.Logged.{Logged}
+use Rattle.spec_answers.specs.Steps.{answer}
+use Rattle.spec_answers.specs.Logs.{logged, nextOf, noteFor, recorded, logAfter, undone}
 
 -- The call run again on a log of 2,048 bytes, which has room for any note: s is what comes back.
 module _ (k : Kernel) (bytes : List ℕ) (sixteen : length bytes ≡ 16) (all : length (k .threads) ≡ 32) (s : Logged) (e : s ≡ recorded k bytes (replicate 2048 0) 0) where

@@ -1,4 +1,3 @@
--- Why the code of the public entries meets its definitions.
-pub mod Parts
-pub mod Compared
 pub mod Again
+pub mod Compared
+pub mod LogParts

@@ -1,3 +1,3 @@
-// The public face: a call on a state with a log, and the undo.
+// The public face: a call on any state with a log, append, and undo.
 pub mod logs;
 pub mod undos;

@@ -3,17 +3,17 @@ ghost use mathlib.Core.Path.{_≡_};
 ghost use Prim.Native.Nat.{_+_, _<_};
 ghost use lib.ListN.{length};
 ghost use denote.Ref.{ptr};
-ghost use Rattle.answers.specs.Logs.{calledWith, logCalled, partCalled};
-use answers::Logged;
-use kernel::records::Kernel;
-use recording::recorded;
-use recording::refused;
+ghost use Rattle.spec_answers.specs.Logs.{calledWith, logCalled, partCalled};
+use spec_answers::Logged;
+use spec_kernel::records::Kernel;
+use code_answers::recorded;
+use code_answers::refused;
 
 // Sixteen bytes on any state whatever, with any log.
 pub fn called(k: Kernel, bytes: [u8; 16], log: &mut [u8], used: usize) -> Logged
     ensures { λ r. ⌜ (r ≡ calledWith k bytes (now (log .entry)) used) × (now (log .exit) ≡ logCalled k bytes (now (log .entry)) used) ⌝ }
 {
-    if !tested::keeps_rules(k) {
+    if !code_rules::keeps_rules(k) {
         return refused(14, 255, k, used);
     }
     recorded(k, bytes, log, used)

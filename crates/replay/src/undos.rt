@@ -1,27 +1,27 @@
 // The undo of a log's last note: put back, test the rules, run the call again, and compare the state and the note.
 ghost use mathlib.Core.Path.{_≡_};
 ghost use mathlib.Core.Bool.{true, cond};
-ghost use Rattle.notes.specs.Undoes.{backFrom, levelsFit, yieldsAgain, undoesNote};
-ghost use Rattle.answers.specs.Steps.{answer};
-ghost use Rattle.answers.specs.Logs.{logged, undone};
-use answers::Answer;
-use answers::Logged;
-use calls::call;
-use coding::bytes::same_bytes;
-use kernel::records::Kernel;
-use noting::note::MOST;
-use reading::frames;
-use reading::frames::Decoded;
-use reading::last;
-use reading::state_back;
-use recording::recorded;
-use recording::refused;
+ghost use Rattle.spec_notes.specs.Undoes.{backFrom, levelsFit, yieldsAgain, undoesNote};
+ghost use Rattle.spec_answers.specs.Steps.{answer};
+ghost use Rattle.spec_answers.specs.Logs.{logged, undone};
+use spec_answers::Answer;
+use spec_answers::Logged;
+use code_calls::call;
+use base_bytes::bytes::same_bytes;
+use spec_kernel::records::Kernel;
+use code_notes::note::MOST;
+use code_notes_back::frames;
+use code_notes_back::frames::Decoded;
+use code_notes_back::last;
+use code_notes_back::state_back;
+use code_answers::recorded;
+use code_answers::refused;
 
 // Whether the state, with the call run again, yields the end state and the note.
 fn yields_again(old: Kernel, bytes: [u8; 16], end: Kernel, note: &[u8]) -> bool
     ensures { λ r. ⌜ (levelsFit old ≡ true → r ≡ yieldsAgain old bytes end (now (note .entry))) ⌝ }
 {
-    if !tested::keeps_rules(old) {
+    if !code_rules::keeps_rules(old) {
         return false;
     }
     let mut again = [0u8; MOST];
@@ -30,7 +30,7 @@ fn yields_again(old: Kernel, bytes: [u8; 16], end: Kernel, note: &[u8]) -> bool
         return false;
     }
     let kernel = l.kernel;
-    if !same::same_kernel(kernel, end) {
+    if !code_notes_same::same_kernel(kernel, end) {
         return false;
     }
     let n = l.used;
@@ -71,7 +71,7 @@ fn undo_note(k: Kernel, note: &[u8], before: usize, used: usize) -> Logged
 pub fn undo(k: Kernel, log: &[u8], used: usize) -> Logged
     ensures { λ r. ⌜ r ≡ undone k (now (log .entry)) used ⌝ }
 {
-    if !tested::keeps_rules(k) {
+    if !code_rules::keeps_rules(k) {
         return refused(14, 255, k, used);
     }
     if !last::has_last(log, used) {

@@ -3,9 +3,9 @@ use mathlib.Core.Path.{_≡_, refl, sym, ap}
 use native.Mathlib.Omega.{arith}
 use lib.ListN.{length}
 use borrow.Author.Needs.{needs}
-use Rattle.answers.specs.declared.Logged.{Logged}
-use Rattle.answers.specs.Logs.{calledWith}
-use Rattle.replay.proofs.Parts.{part-between, part-still, part-moved}
+use Rattle.spec_answers.specs.declared.Logged.{Logged}
+use Rattle.spec_answers.specs.Logs.{calledWith}
+use Rattle.replay.proofs.LogParts.{part-between, part-still, part-moved}
 use Rattle.replay.proofs.logs.append.Statement.{statement}
 use Rattle.replay.proofs.logs.append.Tie as tie
 

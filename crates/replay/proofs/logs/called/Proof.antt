@@ -2,8 +2,8 @@ use mathlib.Core.Path.{_≡_, refl, sym, _∙_}
 use mathlib.Core.Bool.{true, false}
 use borrow.Author.Needs.{needs}
 use borrow.Author.Tests.{not-true, not-false}
-use Rattle.rules.specs.Tests.{keepsRules}
-use Rattle.answers.specs.Logs.{calledWith, logCalled}
+use Rattle.spec_rules.specs.Tests.{keepsRules}
+use Rattle.spec_answers.specs.Logs.{calledWith, logCalled}
 use Rattle.replay.proofs.logs.called.Statement.{statement}
 use Rattle.replay.proofs.logs.called.Tie as tie
 

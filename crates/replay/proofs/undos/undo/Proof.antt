@@ -1,10 +1,10 @@
 use mathlib.Core.Path.{_≡_, sym, _∙_}
 use mathlib.Core.Bool.{true, false}
 use borrow.Author.Tests.{not-true, not-false}
-use Rattle.rules.specs.Tests.{keepsRules}
-use Rattle.notes.specs.Undo.{hasLast}
-use Rattle.notes.specs.Undoes.{undoes}
-use Rattle.answers.specs.Logs.{undone}
+use Rattle.spec_rules.specs.Tests.{keepsRules}
+use Rattle.spec_notes.specs.Undo.{hasLast}
+use Rattle.spec_notes.specs.Undoes.{undoes}
+use Rattle.spec_answers.specs.Logs.{undone}
 use Rattle.replay.proofs.Again.{last-within, undone-part}
 use borrow.Author.Needs.{needs}
 use Rattle.replay.proofs.undos.undo.Statement.{statement}

@@ -3,18 +3,18 @@ use mathlib.Core.Path.{_≡_, sym, ap, _∙_}
 use mathlib.Core.List.{List}
 use mathlib.Core.Bool.{true}
 use borrow.Author.Tests.{not-true, not-false}
-use Rattle.kernel.specs.declared.records.Kernel.{Kernel}
-use Rattle.calls.specs.declared.call.Call.{Call}
-use Rattle.calls.specs.Calls.{callOf}
-use Rattle.notes.specs.Back.{Sections, stateBefore}
-use Rattle.notes.specs.Frames.{nothing, sections, framesOf}
-use Rattle.notes.specs.Undoes.{recordIn, levelsFit, yieldsAgain}
-use Rattle.reading.specs.declared.frames.Decoded.{Decoded}
-use Rattle.reading.specs.Meant.{sectionsMeant, meant}
-use Rattle.reading.specs.Restored.{backOf}
-use Rattle.reading.proofs.Framing.{record-whole}
-use Rattle.answers.specs.Steps.{answer}
-use Rattle.answers.specs.Logs.{logged}
+use Rattle.spec_kernel.specs.declared.records.Kernel.{Kernel}
+use Rattle.spec_calls.specs.declared.call.Call.{Call}
+use Rattle.spec_calls.specs.Calls.{callOf}
+use Rattle.spec_notes.specs.Back.{Sections, stateBefore}
+use Rattle.spec_notes.specs.Frames.{nothing, sections, framesOf}
+use Rattle.spec_notes.specs.Undoes.{recordIn, levelsFit, yieldsAgain}
+use Rattle.code_notes_back.specs.declared.frames.Decoded.{Decoded}
+use Rattle.code_notes_back.specs.Meant.{sectionsMeant, meant}
+use Rattle.code_notes_back.specs.Restored.{backOf}
+use Rattle.code_notes_back.proofs.Framing.{record-whole}
+use Rattle.spec_answers.specs.Steps.{answer}
+use Rattle.spec_answers.specs.Logs.{logged}
 use Rattle.replay.proofs.Again.{note-none, framed-size, left-other, left-unfit, left-back, back-parts}
 use borrow.Author.Needs.{needs}
 use Rattle.replay.proofs.undos.undo_note.Statement.{statement}

@@ -5,12 +5,12 @@ use lib.ListN.{length, take, length-map}
 use lib.Seq.{length-take-le}
 use borrow.Author.Tests.{not-true, not-false}
 use borrow.Author.Needs.{needs}
-use Rattle.coding.specs.Bytes.{begins}
-use Rattle.kernel.specs.declared.records.Kernel.{Kernel}
-use Rattle.rules.specs.Tests.{keepsRules}
-use Rattle.calls.specs.Calls.{callOf}
-use Rattle.calls.specs.Refusals.{numberOf}
-use Rattle.answers.specs.Logs.{nextOf, noteFor}
+use Rattle.base_bytes.specs.Bytes.{begins}
+use Rattle.spec_kernel.specs.declared.records.Kernel.{Kernel}
+use Rattle.spec_rules.specs.Tests.{keepsRules}
+use Rattle.spec_calls.specs.Calls.{callOf}
+use Rattle.spec_refusals.specs.Refusals.{numberOf}
+use Rattle.spec_answers.specs.Logs.{nextOf, noteFor}
 use Rattle.replay.proofs.Again.{run-refused, run-accepted, run-next, note-stands, again-broken, again-refused, again-other, again-note}
 use Rattle.replay.proofs.Compared.{begins-same, other-length}
 use Rattle.replay.proofs.undos.yields_again.Statement.{statement}

@@ -1,0 +1,70 @@
+use mathlib.Core.Path.{_≡_}
+use lib.ListN.{length}
+use borrow.Author.Needs.{needs}
+use Rattle.app_both_ways.proofs.all_forward.Statement.{statement}
+use Rattle.app_both_ways.proofs.all_forward.Tie as tie
+
+abbrev Inv-loop : tie.InvT-loop
+Inv-loop log₀ input₀ run₀ turns₀ log input run turns = length input ≡ 4096
+
+abbrev μ-loop : tie.MeasureT-loop
+μ-loop log₀ input₀ run₀ turns₀ log input run turns = turns
+
+buffer-requires : tie.Need-buffer-requires Inv-loop μ-loop
+buffer-requires c κs = search needs
+
+fresh-requires : tie.Need-fresh-requires Inv-loop μ-loop
+fresh-requires c κs = search needs
+
+loop-holds : tie.Need-loop-holds Inv-loop μ-loop
+loop-holds c = search needs
+
+slice-aggregate-read-full : tie.Need-slice-aggregate-read-full Inv-loop μ-loop
+slice-aggregate-read-full c = search needs
+
+read-full-requires : tie.Need-read-full-requires Inv-loop μ-loop
+read-full-requires c κs = search needs
+
+array-share-prefix-input : tie.Need-array-share-prefix-input Inv-loop μ-loop
+array-share-prefix-input c = search needs
+
+slice-aggregate-forward : tie.Need-slice-aggregate-forward Inv-loop μ-loop
+slice-aggregate-forward c = search needs
+
+forward-requires : tie.Need-forward-requires Inv-loop μ-loop
+forward-requires c κs = search needs
+
+returns : tie.Need-returns Inv-loop μ-loop
+returns c = search needs
+
+sub-turns : tie.Need-sub-turns Inv-loop μ-loop
+sub-turns c = search needs
+
+loop-less : tie.Need-loop-less Inv-loop μ-loop
+loop-less c = search needs
+
+loop-again : tie.Need-loop-again Inv-loop μ-loop
+loop-again c = search needs
+
+returns-2 : tie.Need-returns-2 Inv-loop μ-loop
+returns-2 c = search needs
+
+pub all-forward-spec : {M : Type 1} → statement M
+all-forward-spec =
+    tie.close
+    (tie.spec
+    Inv-loop
+    μ-loop
+    buffer-requires
+    fresh-requires
+    loop-holds
+    slice-aggregate-read-full
+    read-full-requires
+    array-share-prefix-input
+    slice-aggregate-forward
+    forward-requires
+    returns
+    sub-turns
+    loop-less
+    loop-again
+    returns-2)

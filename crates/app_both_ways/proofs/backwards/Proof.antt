@@ -1,0 +1,70 @@
+use mathlib.Core.Path.{_≡_}
+use lib.ListN.{length}
+use borrow.Author.Needs.{needs}
+use Rattle.app_both_ways.proofs.backwards.Statement.{statement}
+use Rattle.app_both_ways.proofs.backwards.Tie as tie
+
+abbrev Inv-loop : tie.InvT-loop
+Inv-loop log used out₀ l₀ turns₀ out l turns = length out ≡ 64
+
+abbrev μ-loop : tie.MeasureT-loop
+μ-loop log used out₀ l₀ turns₀ out l turns = turns
+
+undo-requires : tie.Need-undo-requires Inv-loop μ-loop
+undo-requires c κs = search needs
+
+loop-holds : tie.Need-loop-holds Inv-loop μ-loop
+loop-holds c = search needs
+
+returns : tie.Need-returns Inv-loop μ-loop
+returns c = search needs
+
+slice-aggregate-put-undo : tie.Need-slice-aggregate-put-undo Inv-loop μ-loop
+slice-aggregate-put-undo c = search needs
+
+put-undo-requires : tie.Need-put-undo-requires Inv-loop μ-loop
+put-undo-requires c κs = search needs
+
+slice-aggregate-front : tie.Need-slice-aggregate-front Inv-loop μ-loop
+slice-aggregate-front c = search needs
+
+front-requires : tie.Need-front-requires Inv-loop μ-loop
+front-requires c κs = search needs
+
+write-all-requires : tie.Need-write-all-requires Inv-loop μ-loop
+write-all-requires c κs = search needs
+
+undo-requires-2 : tie.Need-undo-requires-2 Inv-loop μ-loop
+undo-requires-2 c κs = search needs
+
+sub-turns : tie.Need-sub-turns Inv-loop μ-loop
+sub-turns c = search needs
+
+loop-less : tie.Need-loop-less Inv-loop μ-loop
+loop-less c = search needs
+
+loop-again : tie.Need-loop-again Inv-loop μ-loop
+loop-again c = search needs
+
+returns-2 : tie.Need-returns-2 Inv-loop μ-loop
+returns-2 c = search needs
+
+pub backwards-spec : {M : Type 1} → statement M
+backwards-spec =
+    tie.close
+    (tie.spec
+    Inv-loop
+    μ-loop
+    undo-requires
+    loop-holds
+    returns
+    slice-aggregate-put-undo
+    put-undo-requires
+    slice-aggregate-front
+    front-requires
+    write-all-requires
+    undo-requires-2
+    sub-turns
+    loop-less
+    loop-again
+    returns-2)

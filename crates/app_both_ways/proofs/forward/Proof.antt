@@ -1,0 +1,96 @@
+use Prim.Native.Nat.{_≤_, _-_}
+use mathlib.Core.Path.{_≡_}
+use lib.ListN.{length}
+use native.Mathlib.Omega.{arith}
+use borrow.Author.Needs.{needs}
+use Rattle.app_both_ways.proofs.forward.Statement.{statement}
+use Rattle.app_both_ways.proofs.forward.Tie as tie
+
+abbrev Inv-loop : tie.InvT-loop
+Inv-loop s log₀ out₀ run₀ end₀ at₀ log out run end at = (at ≤ length s) × (length out ≡ 16384) × (length log ≡ length log₀)
+
+abbrev μ-loop : tie.MeasureT-loop
+μ-loop s log₀ out₀ run₀ end₀ at₀ log out run end at = length s - at
+
+loop-holds : tie.Need-loop-holds Inv-loop μ-loop
+loop-holds c = search needs
+
+sub-loop : tie.Need-sub-loop Inv-loop μ-loop
+sub-loop c = search needs
+
+sub-record-in : tie.Need-sub-record-in Inv-loop μ-loop
+sub-record-in c = search needs
+
+part-record-in-start : tie.Need-part-record-in-start Inv-loop μ-loop
+part-record-in-start c = search needs
+
+part-record-in-end : tie.Need-part-record-in-end Inv-loop μ-loop
+part-record-in-end c = search needs
+
+record-in-requires : tie.Need-record-in-requires Inv-loop μ-loop
+record-in-requires c κs = search needs
+
+recorded-requires : tie.Need-recorded-requires Inv-loop μ-loop
+recorded-requires c κs = search needs
+
+wrapping-add-u64-requires : tie.Need-wrapping-add-u64-requires Inv-loop μ-loop
+wrapping-add-u64-requires c κs = search needs
+
+wrapping-sub-usize-requires : tie.Need-wrapping-sub-usize-requires Inv-loop μ-loop
+wrapping-sub-usize-requires c κs = search needs
+
+slice-aggregate-put-call : tie.Need-slice-aggregate-put-call Inv-loop μ-loop
+slice-aggregate-put-call c = search needs
+
+put-call-requires : tie.Need-put-call-requires Inv-loop μ-loop
+put-call-requires c κs = search needs
+
+add-at : tie.Need-add-at Inv-loop μ-loop
+add-at c = omega (arith, c .before .before .before .before .before .before .before .before .before .before .before .before .before .before .before .before .good)
+
+loop-less : tie.Need-loop-less Inv-loop μ-loop
+loop-less c = search needs
+
+loop-again : tie.Need-loop-again Inv-loop μ-loop
+loop-again c = search needs
+
+slice-aggregate-front : tie.Need-slice-aggregate-front Inv-loop μ-loop
+slice-aggregate-front c = search needs
+
+front-requires : tie.Need-front-requires Inv-loop μ-loop
+front-requires c κs = search needs
+
+write-all-requires : tie.Need-write-all-requires Inv-loop μ-loop
+write-all-requires c κs = search needs
+
+same-length : tie.Need-same-length Inv-loop μ-loop
+same-length c = search needs
+
+returns : tie.Need-returns Inv-loop μ-loop
+returns c = search needs
+
+pub forward-spec : {M : Type 1} → statement M
+forward-spec =
+    tie.close
+    (tie.spec
+    Inv-loop
+    μ-loop
+    loop-holds
+    sub-loop
+    sub-record-in
+    part-record-in-start
+    part-record-in-end
+    record-in-requires
+    recorded-requires
+    wrapping-add-u64-requires
+    wrapping-sub-usize-requires
+    slice-aggregate-put-call
+    put-call-requires
+    add-at
+    loop-less
+    loop-again
+    slice-aggregate-front
+    front-requires
+    write-all-requires
+    same-length
+    returns)

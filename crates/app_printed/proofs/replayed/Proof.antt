@@ -1,0 +1,91 @@
+use Prim.Native.Nat.{_≤_, _-_}
+use mathlib.Core.Path.{_≡_}
+use lib.ListN.{length}
+use borrow.Author.Needs.{needs}
+use Rattle.app_printed.proofs.replayed.Statement.{statement}
+use Rattle.app_printed.proofs.replayed.Tie as tie
+
+abbrev Inv-loop : tie.InvT-loop
+Inv-loop s log₀ out₀ run₀ end₀ at₀ log out run end at = (at ≤ length s) × (length log ≡ 4096) × (length out ≡ 16384)
+
+abbrev μ-loop : tie.MeasureT-loop
+μ-loop s log₀ out₀ run₀ end₀ at₀ log out run end at = length s - at
+
+loop-holds : tie.Need-loop-holds Inv-loop μ-loop
+loop-holds c = search needs
+
+sub-loop : tie.Need-sub-loop Inv-loop μ-loop
+sub-loop c = search needs
+
+sub-record-in : tie.Need-sub-record-in Inv-loop μ-loop
+sub-record-in c = search needs
+
+part-record-in-start : tie.Need-part-record-in-start Inv-loop μ-loop
+part-record-in-start c = search needs
+
+part-record-in-end : tie.Need-part-record-in-end Inv-loop μ-loop
+part-record-in-end c = search needs
+
+record-in-requires : tie.Need-record-in-requires Inv-loop μ-loop
+record-in-requires c κs = search needs
+
+slice-aggregate-recorded : tie.Need-slice-aggregate-recorded Inv-loop μ-loop
+slice-aggregate-recorded c = search needs
+
+recorded-requires : tie.Need-recorded-requires Inv-loop μ-loop
+recorded-requires c κs = search needs
+
+wrapping-add-u64-requires : tie.Need-wrapping-add-u64-requires Inv-loop μ-loop
+wrapping-add-u64-requires c κs = search needs
+
+slice-aggregate-put-answer : tie.Need-slice-aggregate-put-answer Inv-loop μ-loop
+slice-aggregate-put-answer c = search needs
+
+put-answer-requires : tie.Need-put-answer-requires Inv-loop μ-loop
+put-answer-requires c κs = search needs
+
+add-at : tie.Need-add-at Inv-loop μ-loop
+add-at c = search needs
+
+loop-less : tie.Need-loop-less Inv-loop μ-loop
+loop-less c = search needs
+
+loop-again : tie.Need-loop-again Inv-loop μ-loop
+loop-again c = search needs
+
+slice-aggregate-front : tie.Need-slice-aggregate-front Inv-loop μ-loop
+slice-aggregate-front c = search needs
+
+front-requires : tie.Need-front-requires Inv-loop μ-loop
+front-requires c κs = search needs
+
+write-all-requires : tie.Need-write-all-requires Inv-loop μ-loop
+write-all-requires c κs = search needs
+
+returns : tie.Need-returns Inv-loop μ-loop
+returns c = search needs
+
+pub replayed-spec : {M : Type 1} → statement M
+replayed-spec =
+    tie.close
+    (tie.spec
+    Inv-loop
+    μ-loop
+    loop-holds
+    sub-loop
+    sub-record-in
+    part-record-in-start
+    part-record-in-end
+    record-in-requires
+    slice-aggregate-recorded
+    recorded-requires
+    wrapping-add-u64-requires
+    slice-aggregate-put-answer
+    put-answer-requires
+    add-at
+    loop-less
+    loop-again
+    slice-aggregate-front
+    front-requires
+    write-all-requires
+    returns)

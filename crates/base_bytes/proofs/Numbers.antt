@@ -1,0 +1,62 @@
+-- Laws on numbers as bytes: what is written reads back, and every byte is below 256.
+use Prim.Native.Nat.{ℕ, zero, suc, _+_, _*_, _/_, _^_, _<_}
+use mathlib.Core.Path.{_≡_, refl, ap}
+use mathlib.Core.List.{List, [], _∷_, _++_}
+use mathlib.Core.Bool.{Bool, true, false, _&&_, false≢true}
+use native.Mathlib.Nat.{pow-suc}
+use native.Mathlib.Omega.{arith}
+use lib.Dec.{eqb}
+use lib.ListN.{length, getD, drop, take}
+use lib.Seq.{drop-at, getD-drop}
+use borrow.Author.Tests.{eq-eqb, eqb-true}
+use Rattle.base_bytes.specs.Bytes.{le, un, begins, Small}
+
+pub length-le : (w x : ℕ) → length (le w x) ≡ w
+unfolding le
+length-le zero x = refl
+length-le (suc w) x = ap suc (length-le w (x / 256))
+
+-- Behind a number stands what was written behind it.
+pub drop-le : (w x : ℕ) (r : List ℕ) → drop w (le w x ++ r) ≡ r
+drop-le w x r = drop-at (le w x) r w (length-le w x)
+
+-- A number that fits its width reads back.
+pub un-le : (w x : ℕ) (r : List ℕ) → x < 256 ^ w → un w (le w x ++ r) ≡ x
+unfolding le un
+un-le zero x r h = omega arith
+un-le (suc w) x r h =
+    let p : 256 ^ suc w ≡ 256 ^ w * 256 = pow-suc 256 w in
+    omega (arith, un-le w (x / 256) r (omega arith))
+
+pub small-append : (s t : List ℕ) → Small s → Small t → Small (s ++ t)
+small-append [] t p q = q
+small-append (b ∷ s) t (h, p) q = (h, small-append s t p q)
+
+pub le-small : (w x : ℕ) → Small (le w x)
+unfolding le
+le-small zero x = tt
+le-small (suc w) x = (omega arith, le-small w (x / 256))
+
+-- A number that is read from bytes fits its width.
+pub un-small : (w : ℕ) (s : List ℕ) → ((i : ℕ) → getD s i 0 < 256) → un w s < 256 ^ w
+unfolding un
+un-small zero s h = omega arith
+un-small (suc w) s h =
+    let p : 256 ^ suc w ≡ 256 ^ w * 256 = pow-suc 256 w in
+    omega (arith, h 0, un-small w (drop 1 s) (λ i. rw getD-drop (h (1 + i))))
+
+-- Bytes stand where they were written, and where they stand, they are what is there.
+pub begins-itself : (s r : List ℕ) → begins s (s ++ r) ≡ true
+unfolding begins
+begins-itself [] r = refl
+begins-itself (b ∷ s) r = rw (eq-eqb b b refl) (begins-itself s r)
+
+pub begins-taken : (s l : List ℕ) → begins s l ≡ true → take (length s) l ≡ s
+unfolding begins
+begins-taken [] l e = refl
+begins-taken (b ∷ s) [] e = absurd (false≢true e)
+begins-taken (b ∷ s) (x ∷ l) e = go (eqb x b) refl e (begins-taken s l)
+  where
+    go : (t : Bool) → eqb x b ≡ t → (t && begins s l) ≡ true → (begins s l ≡ true → take (length s) l ≡ s) → x ∷ take (length s) l ≡ b ∷ s
+    go true q f r = rw (eqb-true x b q, r f)
+    go false q f r = absurd (false≢true f)

@@ -1,0 +1,86 @@
+-- `queue::is_tidy` meets its contract: from the length on, the places before i are 0, so the test of all is that of the rest.
+use Prim.Native.Nat.{ℕ, _-_, _≤_}
+use mathlib.Core.Path.{_≡_, _∙_}
+use mathlib.Core.Bool.{Bool}
+use native.Mathlib.Omega.{arith}
+use lib.Dec.{eqb}
+use lib.ListN.{length, take, drop}
+use lib.Seq.{take-all}
+use borrow.Author.Needs.{needs}
+use borrow.Author.Tests.{eq-eqb, ne-eqb, le-leb, lt-leb}
+use Rattle.base_queue.specs.declared.Queue.{Queue}
+use Rattle.base_queue.specs.Lists.{everyFrom, allZero}
+use Rattle.base_queue.specs.Queues.{isTidy}
+use Rattle.base_queue.proofs.Lists.{every-next, every-stop, every-end, every-anywhere}
+use Rattle.base_queue.proofs.is_tidy.Statement.{statement}
+use Rattle.base_queue.proofs.is_tidy.Tie as tie
+
+abbrev test : ℕ → ℕ → Bool
+test _ x = eqb x 0
+
+abbrev Inv-loop : tie.InvT-loop
+Inv-loop at i₀ i = (i ≤ 64) × (length at ≡ 64) × (allZero (drop i₀ at) ≡ everyFrom test i (drop i (take 64 at)))
+
+abbrev μ-loop : tie.MeasureT-loop
+μ-loop at i₀ i = 64 - i
+
+returns : tie.Need-returns Inv-loop μ-loop
+unfolding isTidy
+returns c = rw (lt-leb (c .before .before .before .args .q .n) 64 (omega arith))
+
+cast-i : tie.Need-cast-i Inv-loop μ-loop
+cast-i c = search needs
+
+loop-holds : tie.Need-loop-holds Inv-loop μ-loop
+loop-holds c =
+    let q : Queue = c .before .before .before .before .args .q in
+    let e : length (q .at) ≡ 64 = search needs in
+    (omega arith, e, rw (take-all 64 (q .at) (omega arith)) (every-anywhere (test 0) 0 (q .n) (drop (q .n) (q .at))))
+
+array-read-if2 : tie.Need-array-read-if2 Inv-loop μ-loop
+array-read-if2 c = search needs
+
+returns-2 : tie.Need-returns-2 Inv-loop μ-loop
+unfolding isTidy
+returns-2 c =
+    let q : Queue = c .before .before .before .before .before .before .before .args .q in
+    let l = c .before .before .loop in
+    let p = every-stop test 0 (q .at) 64 (l .i) (omega arith) (omega arith) (ne-eqb _ _ (c .if2 .taken)) in
+    rw (le-leb _ _ (c .before .before .before .before .if1 .left), l .inv .2, p)
+
+add-i : tie.Need-add-i Inv-loop μ-loop
+add-i c = search needs
+
+loop-less : tie.Need-loop-less Inv-loop μ-loop
+loop-less c = search needs
+
+loop-again : tie.Need-loop-again Inv-loop μ-loop
+loop-again c =
+    let q : Queue = c .before .before .before .before .before .before .before .args .q in
+    let l = c .before .before .loop in
+    let p = every-next test 0 (q .at) 64 (l .i) (omega arith) (omega arith) (eq-eqb _ _ (c .if2 .left)) in
+    (omega arith, l .inv .1, l .inv .2 ∙ p)
+
+returns-3 : tie.Need-returns-3 Inv-loop μ-loop
+unfolding isTidy
+returns-3 c =
+    let q : Queue = c .before .before .before .before .before .before .args .q in
+    let l = c .before .loop in
+    let p = every-end test 0 (q .at) 64 (l .i) (omega arith) in
+    rw (le-leb _ _ (c .before .before .before .if1 .left), l .inv .2, p)
+
+pub is-tidy-spec : {M : Type 1} → statement M
+is-tidy-spec =
+    tie.close
+    (tie.spec
+    Inv-loop
+    μ-loop
+    returns
+    cast-i
+    loop-holds
+    array-read-if2
+    returns-2
+    add-i
+    loop-less
+    loop-again
+    returns-3)

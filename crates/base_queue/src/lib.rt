@@ -1,0 +1,195 @@
+// Queues of 64 places with a length, and lists and tables of places with their laws. It knows nothing of kernels.
+ghost use mathlib.Core.Path.{_≡_};
+ghost use mathlib.Core.List.{[]};
+ghost use lib.ListN.{length};
+ghost use Rattle.base_queue.specs.Lists.{without, withoutAt, placeOf, count, has, firstOf, below};
+ghost use Rattle.base_queue.specs.Queues.{items, pack, front, roomFor, isTidy};
+
+pub struct Queue {
+    pub n: u8,
+    pub at: [u8; 64],
+}
+
+// The queue with no place taken.
+pub fn empty() -> Queue
+    ensures { λ r. ⌜ r ≡ pack [] ⌝ }
+{
+    Queue {
+        n: 0,
+        at: [0u8; 64],
+    }
+}
+
+// How many places are taken.
+pub fn size(q: Queue) -> usize
+    ensures { λ r. ⌜ r ≡ length (items q) ⌝ }
+{
+    if q.n < 64 { q.n as usize } else { 64 }
+}
+
+// The first, or 255 for none.
+pub fn first(q: Queue) -> u8
+    ensures { λ r. ⌜ r ≡ firstOf (items q) ⌝ }
+{
+    if q.n == 0 { 255 } else { q.at[0] }
+}
+
+// The place of the first x, or the number of places taken.
+pub fn place_of(q: Queue, x: u8) -> usize
+    ensures { λ r. ⌜ r ≡ placeOf x (items q) ⌝ }
+{
+    let at = q.at;
+    let n = size(q);
+    let mut i: usize = 0;
+    while i < n {
+        if at[i] == x {
+            return i;
+        }
+        i += 1;
+    }
+    n
+}
+
+// How often x stands in it.
+pub fn count(q: Queue, x: u8) -> usize
+    ensures { λ r. ⌜ r ≡ count x (items q) ⌝ }
+{
+    let at = q.at;
+    let n = size(q);
+    let mut c: usize = 0;
+    let mut i: usize = 0;
+    while i < n {
+        let y = at[i];
+        i += 1;
+        if y == x {
+            c += 1;
+        }
+    }
+    c
+}
+
+// Whether x stands in it.
+pub fn contains(q: Queue, x: u8) -> bool
+    ensures { λ r. ⌜ r ≡ has x (items q) ⌝ }
+{
+    let i = place_of(q, x);
+    i < size(q)
+}
+
+// Without x.
+pub fn without(q: Queue, x: u8) -> Queue
+    ensures { λ r. ⌜ r ≡ pack (without x (items q)) ⌝ }
+{
+    let at = q.at;
+    let n = size(q);
+    let mut a = [0u8; 64];
+    let mut k: usize = 0;
+    let mut i: usize = 0;
+    while i < n {
+        let y = at[i];
+        i += 1;
+        if y != x {
+            a[k] = y;
+            k += 1;
+        }
+    }
+    Queue { n: k as u8, at: a }
+}
+
+// The first k places, and zeros after them.
+fn fronted(at: [u8; 64], k: usize) -> [u8; 64]
+    ensures { λ r. ⌜ r ≡ front k at ⌝ }
+{
+    let mut a = [0u8; 64];
+    let mut i: usize = 0;
+    while i < 64 {
+        if k <= i {
+            return a;
+        }
+        a[i] = at[i];
+        i += 1;
+    }
+    a
+}
+
+// Without the member at place i; past the end, nobody goes.
+pub fn without_at(q: Queue, i: usize) -> Queue
+    ensures { λ r. ⌜ r ≡ pack (withoutAt i (items q)) ⌝ }
+{
+    let at = q.at;
+    let n = size(q);
+    if n <= i {
+        let all = fronted(at, n);
+        return Queue {
+            n: n as u8,
+            at: all,
+        };
+    }
+    let mut a = fronted(at, i);
+    let mut k = i + 1;
+    while k < n {
+        a[k - 1] = at[k];
+        k += 1;
+    }
+    Queue {
+        n: (n - 1) as u8,
+        at: a,
+    }
+}
+
+// With x at place i, before the member there; past the end, last. A full queue stays.
+pub fn with_at(q: Queue, i: usize, x: u8) -> Queue
+    ensures { λ r. ⌜ r ≡ pack (roomFor i x (items q)) ⌝ }
+{
+    let at = q.at;
+    let n = size(q);
+    if 64 <= n {
+        return Queue { n: 64, at: at };
+    }
+    let place = if i < n { i } else { n };
+    let mut a = fronted(at, place);
+    a[place] = x;
+    let mut k = place;
+    while k < n {
+        a[k + 1] = at[k];
+        k += 1;
+    }
+    Queue {
+        n: (n + 1) as u8,
+        at: a,
+    }
+}
+
+// Whether its length is at most 64 and its unused store 0.
+pub fn is_tidy(q: Queue) -> bool
+    ensures { λ r. ⌜ r ≡ isTidy q ⌝ }
+{
+    let at = q.at;
+    if 64 < q.n {
+        return false;
+    }
+    let mut i = q.n as usize;
+    while i < 64 {
+        if at[i] != 0 {
+            return false;
+        }
+        i += 1;
+    }
+    true
+}
+
+// Whether every member is below `bound`.
+pub fn all_below(q: Queue, bound: u8) -> bool
+    ensures { λ r. ⌜ r ≡ below bound (items q) ⌝ }
+{
+    let at = q.at;
+    let n = size(q);
+    let mut i: usize = 0;
+    while i < n {
+        if bound <= at[i] {
+            return false;
+        }
+        i += 1;
+    }
+    true
+}

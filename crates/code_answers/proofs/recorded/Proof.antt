@@ -1,0 +1,187 @@
+use Prim.Native.Nat.{ℕ, _≤_, _<_}
+use mathlib.Core.Path.{_≡_, sym, ap, _∙_}
+use native.Mathlib.Omega.{arith}
+use lib.ListN.{length, take, replicate, length-map, length-replicate}
+use lib.Seq.{length-take-le}
+use borrow.Author.Needs.{needs}
+use Rattle.base_bytes.specs.Pens.{pen, puts}
+use Rattle.base_bytes.specs.Logs.{noted, ends}
+use Rattle.spec_calls.specs.declared.call.Call.{Call}
+use Rattle.spec_calls.specs.Calls.{callOf}
+use Rattle.spec_refusals.specs.Refusals.{numberOf}
+use Rattle.code_calls.specs.Named.{namedBy}
+use Rattle.code_notes.specs.Spans.{frontIn, noteIn}
+use Rattle.code_notes.proofs.Fronts.{front-puts, front-closed, note-short}
+use Rattle.code_notes.proofs.Sizes.{composed}
+use Rattle.code_notes.proofs.Waiters.{waiter-found}
+use Rattle.spec_answers.specs.Steps.{nextState}
+use Rattle.code_answers.proofs.Numbers.{number-by, value-by}
+use Rattle.code_answers.proofs.Recording.{ends-refused, Left, left}
+use Rattle.code_answers.proofs.recorded.Statement.{statement}
+use Rattle.code_answers.proofs.recorded.Tie as tie
+
+call-of-requires : tie.Need-call-of-requires
+call-of-requires c κs = search needs
+
+named-by-requires : tie.Need-named-by-requires
+named-by-requires c κs = search needs
+
+number-of-requires : tie.Need-number-of-requires
+number-of-requires c κs = search needs
+
+refused-requires : tie.Need-refused-requires
+refused-requires c κs = search needs
+
+-- the call's number, by the bytes
+number : (c : tie.After-number-of) → let a = c .before .before .before .before .args in c .number-of .result ≡ numberOf (a .k) (callOf (a .bytes))
+number c =
+    let s = c .before .before .before .before in
+    let k = s .args .k in
+    let all : length (k .threads) ≡ 32 = sym (length-map (k .threads) _) ∙ s .good .0 .1 .1 .0 .1 .0 .1 in
+    let byte : c .before .before .call-of .result .a < 256 = omega arith in
+    number-by k _ (callOf (s .args .bytes)) _ (c .before .named-by .ensures) (c .before .before .call-of .ensures) all byte (c .number-of .ensures)
+
+returns : tie.Need-returns
+returns c =
+    let a = c .before .before .before .before .before .before .args in
+    let (r, l) = ends-refused (a .k) (a .bytes) (a .log .now) (a .used) _ (number (c .before .before)) (c .before .if1 .taken) in
+    (c .refused .ensures ∙ r, l)
+
+next-state-requires : tie.Need-next-state-requires
+next-state-requires c κs = search needs
+
+slice-aggregate-put-start : tie.Need-slice-aggregate-put-start
+slice-aggregate-put-start c = search needs
+
+put-start-requires : tie.Need-put-start-requires
+put-start-requires c κs = search needs
+
+slice-aggregate-put-thread-part : tie.Need-slice-aggregate-put-thread-part
+slice-aggregate-put-thread-part c = search needs
+
+put-thread-part-requires : tie.Need-put-thread-part-requires
+put-thread-part-requires c κs = search needs
+
+slice-aggregate-put-semaphore-part : tie.Need-slice-aggregate-put-semaphore-part
+slice-aggregate-put-semaphore-part c = search needs
+
+put-semaphore-part-requires : tie.Need-put-semaphore-part-requires
+put-semaphore-part-requires c κs = search needs
+
+slice-aggregate-put-event-part : tie.Need-slice-aggregate-put-event-part
+slice-aggregate-put-event-part c = search needs
+
+put-event-part-requires : tie.Need-put-event-part-requires
+put-event-part-requires c κs = search needs
+
+slice-aggregate-put-message-part : tie.Need-slice-aggregate-put-message-part
+slice-aggregate-put-message-part c = search needs
+
+put-message-part-requires : tie.Need-put-message-part-requires
+put-message-part-requires c κs = search needs
+
+-- the record and the sections, one behind the other
+fronted : (c : tie.After-put-message-part) → let a = c .before .before .before .before .before .before .before .before .before .before .before .before .before .before .before .before .before .before .before .before .args in
+    pen (c .put-message-part .last .0) (c .put-message-part .result) ≡ puts (pen (replicate 2048 0) 0) (frontIn (a .k) (a .bytes) (c .before .before .before .before .before .before .before .before .before .before .before .before .before .before .next-state .result) (c .before .before .before .before .before .before .before .before .before .before .before .before .before .before .before .before .before .named-by .result .found))
+fronted c =
+    let a = c .before .before .before .before .before .before .before .before .before .before .before .before .before .before .before .before .before .before .before .before .args in
+    let named : c .before .before .before .before .before .before .before .before .before .before .before .before .before .before .before .before .before .named-by .result ≡ namedBy (a .k) (callOf (a .bytes)) = c .before .before .before .before .before .before .before .before .before .before .before .before .before .before .before .before .before .named-by .ensures ∙ ap (namedBy (a .k)) (c .before .before .before .before .before .before .before .before .before .before .before .before .before .before .before .before .before .before .call-of .ensures) in
+    rw (
+      c .put-message-part .ensures,
+      c .before .before .before .put-event-part .ensures,
+      c .before .before .before .before .before .before .put-semaphore-part .ensures,
+      c .before .before .before .before .before .before .before .before .before .put-thread-part .ensures,
+      c .before .before .before .before .before .before .before .before .before .before .before .before .put-start .ensures,
+      c .before .before .before .before .before .before .before .before .before .before .before .before .before .before .before .before .before .before .call-of .ensures,
+    )
+    (front-puts _ (a .k) (a .bytes) _ _ _ (waiter-found (a .k) (callOf (a .bytes)) _ _ _ named))
+
+slice-aggregate-put-end : tie.Need-slice-aggregate-put-end
+slice-aggregate-put-end c = search needs
+
+put-end-requires : tie.Need-put-end-requires
+put-end-requires c κs = search needs
+
+-- what the buffer holds then is the note
+composed-note : (c : tie.After-put-end) → let a = c .before .before .before .before .before .before .before .before .before .before .before .before .before .before .before .before .before .before .before .before .before .before .before .args in
+    (c .put-end .result ≤ length (c .put-end .last .0)) × (take (c .put-end .result) (c .put-end .last .0) ≡ noteIn (a .k) (a .bytes) (c .before .before .before .before .before .before .before .before .before .before .before .before .before .before .before .before .before .next-state .result) (c .before .before .before .before .before .before .before .before .before .before .before .before .before .before .before .before .before .before .before .before .named-by .result .found))
+composed-note c =
+    let s = c .before .before .before .before .before .before .before .before .before .before .before .before .before .before .before .before .before .before .before .before .before .before .before in
+    let k = s .args .k in
+    let bytes = s .args .bytes in
+    let sixteen : length bytes ≡ 16 = s .good .1 .0 .1 .0 .1 in
+    let room : 2048 ≤ length {A = ℕ} (replicate 2048 0) = rw length-replicate (omega arith) in
+    let e = front-closed (replicate 2048 0) _ _ k bytes _ _ _ sixteen room (fronted (c .before .before .before)) (c .put-end .ensures) in
+    let w = composed (replicate 2048 0) _ _ _ e (rw length-replicate (omega (arith, note-short k bytes (c .before .before .before .before .before .before .before .before .before .before .before .before .before .before .before .before .before .next-state .result) (c .before .before .before .before .before .before .before .before .before .before .before .before .before .before .before .before .before .before .before .before .named-by .result .found) sixteen))) in
+    (w .0, w .1)
+
+array-share-prefix-buffer : tie.Need-array-share-prefix-buffer
+array-share-prefix-buffer c = composed-note (c .before .before) .0
+
+slice-aggregate-write : tie.Need-slice-aggregate-write
+slice-aggregate-write c = sym (length-take-le _ _ (composed-note (c .before .before .before) .0))
+
+write-requires : tie.Need-write-requires
+write-requires c κs = search needs
+
+-- what the writer leaves, by the bytes
+written : (c : tie.After-write) → let a = c .before .before .before .before .before .before .before .before .before .before .before .before .before .before .before .before .before .before .before .before .before .before .before .before .before .before .before .args in
+    Left (a .k) (a .bytes) (a .log .now) (c .write .last .0) (a .used) (c .write .result) (c .before .before .before .before .before .before .before .before .before .before .before .before .before .before .before .before .before .before .before .before .before .before .before .before .named-by .result .found) (c .before .before .before .before .before .before .before .before .before .before .before .before .before .before .before .before .before .before .before .before .before .next-state .result)
+written c =
+    let s = c .before .before .before .before .before .before .before .before .before .before .before .before .before .before .before .before .before .before .before .before .before .before .before .before .before .before .before in
+    let k = s .args .k in
+    let x : c .before .before .before .before .before .before .before .before .before .before .before .before .before .before .before .before .before .before .before .before .before .before .before .before .before .call-of .result ≡ callOf (s .args .bytes) = c .before .before .before .before .before .before .before .before .before .before .before .before .before .before .before .before .before .before .before .before .before .before .before .before .before .call-of .ensures in
+    let sixteen : length (s .args .bytes) ≡ 16 = s .good .1 .0 .1 .0 .1 in
+    let all : length (k .threads) ≡ 32 = sym (length-map (k .threads) _) ∙ s .good .0 .1 .1 .0 .1 .0 .1 in
+    let n = noteIn k (s .args .bytes) (c .before .before .before .before .before .before .before .before .before .before .before .before .before .before .before .before .before .before .before .before .before .next-state .result) (c .before .before .before .before .before .before .before .before .before .before .before .before .before .before .before .before .before .before .before .before .before .before .before .before .named-by .result .found) in
+    let w : (c .write .last .0 ≡ noted (s .args .log .now) (s .args .used) n) × (c .write .result ≡ ends (s .args .log .now) (s .args .used) n) = rw (← composed-note (c .before .before .before .before) .1) (c .write .ensures) in
+    left k (s .args .bytes) (s .args .log .now) _ (s .args .used) _ _ _ sixteen all (sym (number (c .before .before .before .before .before .before .before .before .before .before .before .before .before .before .before .before .before .before .before .before .before .before .before)) ∙ c .before .before .before .before .before .before .before .before .before .before .before .before .before .before .before .before .before .before .before .before .before .before .if1 .left)
+    (value-by k _ (callOf (s .args .bytes)) _ (c .before .before .before .before .before .before .before .before .before .before .before .before .before .before .before .before .before .before .before .before .before .before .before .before .named-by .ensures) x) (c .before .before .before .before .before .before .before .before .before .before .before .before .before .before .before .before .before .before .before .before .before .next-state .ensures ∙ ap (λ (y : Call). nextState k y) x) w
+
+refused-requires-2 : tie.Need-refused-requires-2
+refused-requires-2 c κs = search needs
+
+same-length : tie.Need-same-length
+same-length c = search needs
+
+returns-2 : tie.Need-returns-2
+returns-2 c =
+    let l = written (c .before .before .before .before) in
+    (c .refused2 .ensures ∙ l .no-room (c .before .if2 .taken), l .log-after)
+
+same-length-2 : tie.Need-same-length-2
+same-length-2 c = search needs
+
+returns-3 : tie.Need-returns-3
+returns-3 c = let l = written (c .before .before .before) in (l .with-room (c .if2 .left), l .log-after)
+
+pub recorded-spec : {M : Type 1} → statement M
+recorded-spec =
+    tie.close
+    (tie.spec
+    call-of-requires
+    named-by-requires
+    number-of-requires
+    refused-requires
+    returns
+    next-state-requires
+    slice-aggregate-put-start
+    put-start-requires
+    slice-aggregate-put-thread-part
+    put-thread-part-requires
+    slice-aggregate-put-semaphore-part
+    put-semaphore-part-requires
+    slice-aggregate-put-event-part
+    put-event-part-requires
+    slice-aggregate-put-message-part
+    put-message-part-requires
+    slice-aggregate-put-end
+    put-end-requires
+    array-share-prefix-buffer
+    slice-aggregate-write
+    write-requires
+    refused-requires-2
+    same-length
+    returns-2
+    same-length-2
+    returns-3)

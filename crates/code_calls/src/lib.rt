@@ -1,0 +1,3 @@
+// Sixteen bytes as a call, and what it needs to know of the state, looked up once.
+pub mod call;
+pub mod named;

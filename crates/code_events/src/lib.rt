@@ -1,0 +1,116 @@
+// Events and event bits: load, pend, set and clear.
+ghost use mathlib.Core.Path.{_≡_};
+ghost use Rattle.spec_events.specs.Events.{wokenIn, workOutFrom, workedOut, loadEvent, pendEvent};
+ghost use Rattle.code_events.specs.Signals.{signalled};
+use spec_calls::call::Call;
+use spec_moves::parts::Threads;
+use code_kernel::places;
+use spec_kernel::records::Condition;
+use spec_kernel::records::Event;
+use spec_kernel::records::Kernel;
+use spec_kernel::records::Wake;
+use code_kernel_find::by_id;
+use code_moves::states;
+
+// Everybody whose home is h wakes, in the order of the table.
+fn woken_in(p: Threads, h: u16) -> Threads
+    ensures { λ x. ⌜ x ≡ wokenIn h p ⌝ }
+{
+    let before = p.records;
+    let q = p.places;
+    let at = q.at;
+    let n = base_queue::size(q);
+    let mut next = p;
+    let mut i: usize = 0;
+    while i < n {
+        let t = at[i];
+        i += 1;
+        let mut home = places::NOWHERE;
+        if t < 32 {
+            let j = t as usize;
+            let r = before[j];
+            home = places::home_of(r);
+        }
+        if home == h {
+            next = code_threads::woken(next, t, Wake::Met);
+        }
+    }
+    next
+}
+
+// Each TRUE event wakes all its waiters, in id order.
+fn worked_in(p: Threads, events: [Event; 8], bits: u32) -> Threads
+    ensures { λ x. ⌜ x ≡ workOutFrom events bits 0 8 p ⌝ }
+{
+    let mut next = p;
+    let mut i: usize = 0;
+    while i < 8 {
+        let e = events[i];
+        let h = 512 + (i as u16);
+        i += 1;
+        if code_kernel::truth::is_true(bits, e) {
+            next = woken_in(next, h);
+        }
+    }
+    next
+}
+
+fn worked_out(k: Kernel) -> Kernel
+    ensures { λ x. ⌜ x ≡ workedOut k ⌝ }
+{
+    let events = k.events;
+    states::with_threads(k, worked_in(states::threads_of(k), events, k.bits))
+}
+
+// Event a with its new data, before events are worked out.
+fn loaded(k: Kernel, c: Call) -> Kernel
+    ensures { λ x. ⌜ workedOut x ≡ loadEvent k c ⌝ }
+{
+    let mut next = k;
+    if c.a < 8 {
+        let i = c.a as usize;
+        next.events[i] = Event {
+            any: c.b == 1,
+            mask: c.c,
+            values: c.d,
+        };
+    }
+    next
+}
+
+// The event loaded, or the bit set or cleared.
+fn changed(k: Kernel, c: Call) -> Kernel
+    ensures { λ x. ⌜ workedOut x ≡ signalled k c ⌝ }
+{
+    let mut next = k;
+    let kind = c.kind;
+    match kind {
+        20 => loaded(k, c),
+        22 | 29 => {
+            next.bits = base_bits::with_bit(k.bits, c.a);
+            next
+        }
+        _ => {
+            next.bits = base_bits::without_bit(k.bits, c.a);
+            next
+        }
+    }
+}
+
+// The kinds after which events are worked out. One place works them out for all: that spares copies of the state.
+pub fn signalled(k: Kernel, c: Call) -> Kernel
+    ensures { λ x. ⌜ x ≡ signalled k c ⌝ }
+{
+    worked_out(changed(k, c))
+}
+
+pub fn pend_event(k: Kernel, c: Call) -> Kernel
+    ensures { λ x. ⌜ x ≡ pendEvent k c ⌝ }
+{
+    let events = k.events;
+    let e = by_id::event_at(events, c.a);
+    if code_kernel::truth::is_true(k.bits, e) {
+        return k;
+    }
+    code_threads::block(k, Condition::ForEvent(c.a), c.c)
+}

@@ -1,0 +1,32 @@
+-- `moving::thread_put_back` meets its contract: the record is stored, and each table is as its step says.
+use borrow.Author.Needs.{needs}
+use borrow.Author.Tests.{lt-ltb, le-ltb}
+use Rattle.spec_moves.specs.Moves.{putThreadBack}
+use Rattle.code_moves.proofs.thread_put_back.Statement.{statement}
+use Rattle.code_moves.proofs.thread_put_back.Tie as tie
+
+returns : tie.Need-returns
+unfolding putThreadBack
+returns c = rw (le-ltb (c .before .args .id) 32 (c .if1 .taken))
+
+mul-r : tie.Need-mul-r
+mul-r c = search needs
+
+element-set-from-r : tie.Need-element-set-from-r
+element-set-from-r c = search needs
+
+put-back-requires : tie.Need-put-back-requires
+put-back-requires c κs = search needs
+
+put-back-requires-2 : tie.Need-put-back-requires-2
+put-back-requires-2 c κs = search needs
+
+returns-2 : tie.Need-returns-2
+unfolding putThreadBack
+returns-2 c =
+    rw (lt-ltb (c .before .before .before .before .before .args .id) 32 (c .before .before .before .before .if1 .left), c .before .put-back .ensures, c .put-back2 .ensures)
+
+pub thread-put-back-spec : {M : Type 1} → statement M
+thread-put-back-spec =
+    tie.close
+    (tie.spec returns mul-r element-set-from-r put-back-requires put-back-requires-2 returns-2)

@@ -1,0 +1,95 @@
+-- `moving::wake_place` meets its contract: none of the i places passed wakes after `ticks`. Where the arms meet, `other` is what the member at i has left; past the records that is 0.
+use Prim.Native.Nat.{ℕ, _-_}
+use mathlib.Core.Path.{_≡_, sym, ap, _∙_}
+use mathlib.Core.Logic.{⊎-elim}
+use mathlib.Core.List.{List}
+use native.Mathlib.Omega.{arith}
+use lib.ListN.{length, getD}
+use borrow.Author.Needs.{needs}
+use Rattle.spec_kernel.specs.declared.records.Thread.{Thread}
+use Rattle.spec_kernel.specs.Records.{noThread}
+use Rattle.spec_moves.proofs.Joins.{past-end, Seek, seek-starts, seek-stops, seek-goes, seek-ends}
+use Rattle.code_moves.proofs.wake_place.Statement.{statement}
+use Rattle.code_moves.proofs.wake_place.Tie as tie
+
+abbrev key : List Thread → ℕ → ℕ
+key records u = getD records u noThread .ticks
+
+abbrev Inv-loop : tie.InvT-loop
+Inv-loop ticks records at n i₀ i = Seek (key records) ticks at n i
+
+abbrev μ-loop : tie.MeasureT-loop
+μ-loop ticks records at n i₀ i = n - i
+
+-- where the arms meet
+meets : (c : tie.Joined1 Inv-loop μ-loop)
+    → let a = c .before .before .before .before .before .args in c .if1 .other ≡ key (a .t1) (getD (a .q .at) (c .before .before .loop .i) 0)
+meets c =
+    let a = c .before .before .before .before .before .args in
+    let e : length (a .t1) ≡ 32 = search needs in
+    ⊎-elim (λ w. w .1) (λ w. w .1 ∙ sym (ap (λ (r : Thread). r .ticks) (past-end (a .t1) noThread e (w .0 .left)))) (c .if1 .came)
+
+size-requires : tie.Need-size-requires Inv-loop μ-loop
+size-requires c κs = search needs
+
+loop-holds : tie.Need-loop-holds Inv-loop μ-loop
+loop-holds c =
+    let a = c .before .before .args in
+    let e : length (a .q .at) ≡ 64 = search needs in
+    seek-starts (key (a .t1)) (a .ticks) (a .q) _ (c .size .ensures) e
+
+array-read-u : tie.Need-array-read-u Inv-loop μ-loop
+array-read-u c = search needs
+
+cast-u : tie.Need-cast-u Inv-loop μ-loop
+cast-u c = search needs
+
+mul-other : tie.Need-mul-other Inv-loop μ-loop
+mul-other c = search needs
+
+element-copy-out-other : tie.Need-element-copy-out-other Inv-loop μ-loop
+element-copy-out-other c = search needs
+
+returns : tie.Need-returns Inv-loop μ-loop
+returns c =
+    let a = c .before .before .before .before .before .before .args in
+    let l = c .before .before .before .loop in
+    let m = meets (c .before) in
+    seek-stops (key (a .t1)) (a .ticks) (a .q) _ (c .before .before .before .before .size .ensures) (l .i) (l .inv) (omega arith) (omega arith)
+
+add-i : tie.Need-add-i Inv-loop μ-loop
+add-i c = search needs
+
+loop-less : tie.Need-loop-less Inv-loop μ-loop
+loop-less c = search needs
+
+loop-again : tie.Need-loop-again Inv-loop μ-loop
+loop-again c =
+    let a = c .before .before .before .before .before .before .args in
+    let l = c .before .before .before .loop in
+    let m = meets (c .before) in
+    seek-goes (key (a .t1)) (a .ticks) (a .q) _ (c .before .before .before .before .size .ensures) (l .i) (l .inv) (omega arith) (omega arith)
+
+returns-2 : tie.Need-returns-2 Inv-loop μ-loop
+returns-2 c =
+    let a = c .before .before .before .before .args in
+    let l = c .before .loop in
+    seek-ends (key (a .t1)) (a .ticks) (a .q) _ (c .before .before .size .ensures) (l .i) (l .inv) (omega arith)
+
+pub wake-place-spec : {M : Type 1} → statement M
+wake-place-spec =
+    tie.close
+    (tie.spec
+    Inv-loop
+    μ-loop
+    size-requires
+    loop-holds
+    array-read-u
+    cast-u
+    mul-other
+    element-copy-out-other
+    returns
+    add-i
+    loop-less
+    loop-again
+    returns-2)

@@ -1,0 +1,184 @@
+-- Laws on a section that is read entry by entry: the readers of all kinds of records are one, over what an entry does.
+use Prim.Native.Nat.{ℕ, zero, suc, _+_, _-_, _/_, _≤_, _<_}
+use mathlib.Core.Path.{_≡_, refl, _∙_}
+use mathlib.Core.Bool.{Bool, true, false, cond}
+use mathlib.Core.List.{List, [], _∷_, map}
+use native.Mathlib.Nat.{add-zero}
+use native.Mathlib.Numerals.{add-one}
+use native.Mathlib.Omega.{arith}
+use lib.ListN.{length, getD, drop, set, replicate, length-drop, drop-of-length-le}
+use lib.Seq.{drop-cons, drop-drop, getD-drop}
+use Rattle.base_rows.specs.Rows.{rowFrom, usedBy, sum, flagged as isFlagged}
+use Rattle.spec_kernel.specs.declared.records.Semaphore.{Semaphore}
+use Rattle.spec_kernel.specs.declared.records.Event.{Event}
+use Rattle.spec_kernel.specs.declared.records.Message.{Message}
+use Rattle.spec_kernel.specs.Records.{noSemaphore, noEvent, noMessage}
+use Rattle.spec_calls.specs.declared.call.Call.{Call}
+use Rattle.spec_notes.specs.Rows.{semaphoreFrom, semaphoreWidths, eventFrom, eventWidths, messageFrom, messageWidths}
+use Rattle.spec_notes.specs.Touched.{youngerSemaphore}
+use Rattle.spec_notes.specs.Predicted.{predictedSemaphore, predictedEvent, predictedMessage}
+use Rattle.spec_notes.specs.Back.{readSemaphores, semaphoresBefore, readEvents, bitChanged, eventsBefore, Filing, messageBack, readMessages, messagesBefore}
+
+-- ---- entry by entry: what an entry does of its id and the bytes behind it, and how many of them are its own
+module _ {A : Type 0} (does : ℕ → List ℕ → A → A) (own : List ℕ → ℕ) where
+  unfoldable pub entries : ℕ → List ℕ → A → A
+  entries zero s a = a
+  entries (suc n) [] a = a
+  entries (suc n) (x ∷ s) a = entries n (drop (own s) s) (does x s a)
+
+  -- no entry is empty, so as many steps as there are bytes are enough
+  pub entries-enough : (n m : ℕ) (s : List ℕ) (a : A) → length s ≤ n → length s ≤ m → entries n s a ≡ entries m s a
+  unfolding entries
+  entries-enough zero zero [] a p q = refl
+  entries-enough zero (suc m) [] a p q = refl
+  entries-enough (suc n) zero [] a p q = refl
+  entries-enough (suc n) (suc m) [] a p q = refl
+  entries-enough zero m (x ∷ s) a p q = absurd (omega arith)
+  entries-enough (suc n) zero (x ∷ s) a p q = absurd (omega arith)
+  entries-enough (suc n) (suc m) (x ∷ s) a p q =
+      let d = length-drop (own s) s in
+      entries-enough n m (drop (own s) s) (does x s a) (omega arith) (omega arith)
+
+  -- from a place on
+  abbrev pub entriesFrom : List ℕ → ℕ → A → A
+  entriesFrom s p a = entries (length (drop p s)) (drop p s) a
+
+  one-entry : (s : List ℕ) (p q : ℕ) (a : A) → p < length s → q ≡ suc p + own (drop (suc p) s)
+      → entriesFrom s p a ≡ entriesFrom s q (does (getD s p 0) (drop (suc p) s) a)
+  unfolding entries
+  one-entry s p q a h e =
+      let t : List ℕ = drop (suc p) s in
+      let d = length-drop (own t) t in
+      rw (drop-cons s p 0 h)
+      (entries-enough (length t) (length (drop (own t) t)) (drop (own t) t) (does (getD s p 0) t a) (omega arith) (omega arith) ∙ rw (drop-drop, ← e))
+
+  pub entries-next : (s : List ℕ) (p q : ℕ) (a : A) → p < length s → q ≡ p + 1 + own (drop (p + 1) s)
+      → entriesFrom s p a ≡ entriesFrom s q (does (getD s p 0) (drop (p + 1) s) a)
+  entries-next s p q a h e = rw add-one (one-entry s p q a h (rw add-one at e))
+
+  pub entries-end : (s : List ℕ) (p : ℕ) (a : A) → length s ≤ p → entriesFrom s p a ≡ a
+  unfolding entries
+  entries-end s p a h = rw (drop-of-length-le s h)
+
+-- ---- an entry of flags and fields
+module _ {A : Type 0} (ws : List ℕ) (does : ℕ → ℕ → List ℕ → A → A) where
+  abbrev pub ofFlags : ℕ → List ℕ → A → A
+  ofFlags x s a = does x (getD s 0 0) (drop 1 s) a
+
+  abbrev pub flagsOwn : List ℕ → ℕ
+  flagsOwn s = 1 + usedBy ws (getD s 0 0)
+
+  -- from a place on
+  abbrev pub flaggedFrom : List ℕ → ℕ → A → A
+  flaggedFrom s p a = entriesFrom ofFlags flagsOwn s p a
+
+  pub flagged-next : (s : List ℕ) (p : ℕ) (a : A) → p < length s
+      → flaggedFrom s p a ≡ flaggedFrom s (p + 1 + 1 + usedBy ws (getD s (p + 1) 0)) (does (getD s p 0) (getD s (p + 1) 0) (drop (p + 1 + 1) s) a)
+  flagged-next s p a h =
+      let g : getD (drop (p + 1) s) 0 0 ≡ getD s (p + 1) 0 = rw (getD-drop, add-zero) in
+      entries-next ofFlags flagsOwn s p (p + 1 + 1 + usedBy ws (getD s (p + 1) 0)) a h (rw g (omega arith)) ∙ rw (g, drop-drop)
+
+-- how many bytes an entry can have
+pub used-short : (ws : List ℕ) (flags : ℕ) → usedBy ws flags ≤ sum ws
+unfolding usedBy sum
+used-short [] flags = omega arith
+used-short (w ∷ ws) flags = go (isFlagged flags) (used-short ws (flags / 2))
+  where
+    go : (b : Bool) → usedBy ws (flags / 2) ≤ sum ws → cond b w 0 + usedBy ws (flags / 2) ≤ w + sum ws
+    go true h = omega arith
+    go false h = omega arith
+
+-- ---- the readers are that
+module _ (c : Call) (new : List Semaphore) where
+  abbrev pub semaphoreDoes : ℕ → ℕ → List ℕ → List Semaphore → List Semaphore
+  semaphoreDoes i flags t a = set a i (semaphoreFrom (rowFrom semaphoreWidths flags (predictedSemaphore c (getD new i noSemaphore)) t))
+
+  semaphores-entries : (n : ℕ) (s : List ℕ) (a : List Semaphore)
+      → readSemaphores n c new s a ≡ entries (ofFlags semaphoreWidths semaphoreDoes) (flagsOwn semaphoreWidths semaphoreDoes) n s a
+  unfolding readSemaphores entries
+  semaphores-entries zero s a = refl
+  semaphores-entries (suc n) [] a = refl
+  semaphores-entries (suc n) (i ∷ s) a = semaphores-entries n _ _
+
+  pub semaphores-turns : (s : List ℕ) → semaphoresBefore c new s ≡ flaggedFrom semaphoreWidths semaphoreDoes s 0 (map (youngerSemaphore c) new)
+  unfolding semaphoresBefore
+  semaphores-turns s = semaphores-entries (length s) s _
+
+module _ (new : List Event) where
+  abbrev pub eventDoes : ℕ → ℕ → List ℕ → List Event → List Event
+  eventDoes i flags t a = set a i (eventFrom (rowFrom eventWidths flags (predictedEvent (getD new i noEvent)) t))
+
+  events-entries : (n : ℕ) (s : List ℕ) (a : List Event) → readEvents n new s a ≡ entries (ofFlags eventWidths eventDoes) (flagsOwn eventWidths eventDoes) n s a
+  unfolding readEvents entries
+  events-entries zero s a = refl
+  events-entries (suc n) [] a = refl
+  events-entries (suc n) (i ∷ s) a = events-entries n _ _
+
+  pub events-turns : (s : List ℕ) → eventsBefore new s ≡ flaggedFrom eventWidths eventDoes s (cond (bitChanged s) 1 0) new
+  unfolding eventsBefore
+  events-turns s =
+      let d = length-drop (cond (bitChanged s) 1 0) s in
+      events-entries (length s) (drop (cond (bitChanged s) 1 0) s) new
+      ∙ entries-enough _ _ (length s) (length (drop (cond (bitChanged s) 1 0) s)) (drop (cond (bitChanged s) 1 0) s) new (omega arith) (omega arith)
+
+module _ (c : Call) (runner : ℕ) (new : List Message) where
+  abbrev pub messageDoes : ℕ → ℕ → List ℕ → Filing → Filing
+  messageDoes m flags t a = messageBack m (rowFrom messageWidths flags (predictedMessage c runner (getD new m noMessage)) t) a
+
+  messages-entries : (n : ℕ) (s : List ℕ) (a : Filing) → readMessages n c runner new s a ≡ entries (ofFlags messageWidths messageDoes) (flagsOwn messageWidths messageDoes) n s a
+  unfolding readMessages entries
+  messages-entries zero s a = refl
+  messages-entries (suc n) [] a = refl
+  messages-entries (suc n) (i ∷ s) a = messages-entries n _ _
+
+  pub messages-turns : (s : List ℕ)
+      → messagesBefore c runner new s ≡ flaggedFrom messageWidths messageDoes s 0 (record { messages = new; out = replicate 64 0; at = replicate 64 255 })
+  unfolding messagesBefore
+  messages-turns s = messages-entries (length s) s _
+
+-- ---- a turn of each loop, of what its calls answer
+module _ (s : List ℕ) (p b u : ℕ) (h : p < length s) (b′ : b ≡ getD s (p + 1) 0) where
+  pub semaphore-turn : (c : Call) (new a a′ : List Semaphore) (v : Semaphore) → u ≡ usedBy semaphoreWidths b
+      → v ≡ semaphoreFrom (rowFrom semaphoreWidths (getD s (p + 1) 0) (predictedSemaphore c (getD new (getD s p 0) noSemaphore)) (drop (p + 1 + 1) s))
+      → a′ ≡ set a (getD s p 0) v
+      → flaggedFrom semaphoreWidths (semaphoreDoes c new) s p a ≡ flaggedFrom semaphoreWidths (semaphoreDoes c new) s (p + 1 + 1 + u) a′
+  semaphore-turn c new a a′ v e f g = flagged-next semaphoreWidths (semaphoreDoes c new) s p a h ∙ rw (g, f, e, b′)
+
+  pub event-turn : (new a a′ : List Event) (v : Event) → u ≡ usedBy eventWidths b
+      → v ≡ eventFrom (rowFrom eventWidths (getD s (p + 1) 0) (predictedEvent (getD new (getD s p 0) noEvent)) (drop (p + 1 + 1) s))
+      → a′ ≡ set a (getD s p 0) v
+      → flaggedFrom eventWidths (eventDoes new) s p a ≡ flaggedFrom eventWidths (eventDoes new) s (p + 1 + 1 + u) a′
+  event-turn new a a′ v e f g = flagged-next eventWidths (eventDoes new) s p a h ∙ rw (g, f, e, b′)
+
+  pub message-turn : (c : Call) (runner : ℕ) (new : List Message) (r : Message) (row : List ℕ) (messages messages′ : List Message) (out out′ at at′ : List ℕ)
+      → u ≡ usedBy messageWidths b
+      → r ≡ getD new (getD s p 0) noMessage
+      → row ≡ rowFrom messageWidths (getD s (p + 1) 0) (predictedMessage c runner r) (drop (p + 1 + 1) s)
+      → messages′ ≡ set messages (getD s p 0) (messageFrom row)
+      → out′ ≡ set out (getD s p 0) 1
+      → at′ ≡ set at (getD row 7 0) (getD s p 0)
+      → flaggedFrom messageWidths (messageDoes c runner new) s p (record { messages = messages; out = out; at = at })
+      ≡ flaggedFrom messageWidths (messageDoes c runner new) s (p + 1 + 1 + u) (record { messages = messages′; out = out′; at = at′ })
+  message-turn c runner new r row messages messages′ out out′ at at′ e f g i j k =
+      flagged-next messageWidths (messageDoes c runner new) s p _ h ∙ rw (i, j, k, g, f, e, b′)
+
+-- an id past the end
+pub at-least : (l i : ℕ) {k : ℕ} → l ≡ k → k ≤ i → l ≤ i
+at-least l i e h = omega arith
+
+-- the loop goes on
+pub goes-on : (l p u : ℕ) → p < l → l - (p + 1 + 1 + u) < l - p
+goes-on l p u h = omega arith
+
+-- the longest entry of each kind
+pub sum-semaphore : sum semaphoreWidths ≡ 13
+unfolding sum
+sum-semaphore = refl
+
+pub sum-event : sum eventWidths ≡ 9
+unfolding sum
+sum-event = refl
+
+pub sum-message : sum messageWidths ≡ 15
+unfolding sum
+sum-message = refl

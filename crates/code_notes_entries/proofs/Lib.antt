@@ -1,0 +1,5 @@
+pub mod Entries
+pub mod EntryTurns
+pub mod Fields
+pub mod Fits
+pub mod Typed

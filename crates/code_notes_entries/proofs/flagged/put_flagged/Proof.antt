@@ -1,0 +1,25 @@
+-- `writing::flagged::put_flagged` meets its contract: the flags, then the body.
+use Rattle.base_bytes.specs.Pens.{puts}
+use borrow.Author.Needs.{needs}
+use Rattle.code_notes_entries.proofs.flagged.put_flagged.Statement.{statement}
+use Rattle.code_notes_entries.proofs.flagged.put_flagged.Tie as tie
+
+flags-of-requires : tie.Need-flags-of-requires
+flags-of-requires c κs = search needs
+
+put-byte-requires : tie.Need-put-byte-requires
+put-byte-requires c κs = search needs
+
+put-body-requires : tie.Need-put-body-requires
+put-body-requires c κs = search needs
+
+same-length : tie.Need-same-length
+same-length c = search needs
+
+returns : tie.Need-returns
+unfolding puts
+returns c = rw (c .before .before .put-body .ensures, c .before .before .before .before .before .before .put-byte .ensures, c .before .before .before .before .before .before .before .flags-of .ensures)
+
+pub put-flagged-spec : {M : Type 1} → statement M
+put-flagged-spec =
+    tie.close (tie.spec flags-of-requires put-byte-requires put-body-requires same-length returns)

@@ -1,0 +1,68 @@
+// The events and their bits before a call, of those after it and the note's section.
+ghost use mathlib.Core.Path.{_≡_};
+ghost use mathlib.Core.Bool.{cond};
+ghost use Prim.Native.Nat.{_+_, _≤_};
+ghost use lib.ListN.{length, getD, drop};
+ghost use Rattle.base_rows.specs.Rows.{rowFrom};
+ghost use Rattle.spec_notes.specs.Rows.{eventFrom, eventWidths};
+ghost use Rattle.spec_notes.specs.Predicted.{predictedEvent};
+ghost use Rattle.spec_notes.specs.Back.{bitChanged, bitsBefore, eventsBefore};
+use spec_calls::call::Call;
+use base_bytes::bytes::byte_at;
+use base_rows::rows::row_at;
+use base_rows::rows::used_by;
+use spec_kernel::records::Event;
+use crate::event_rows;
+
+const WIDTHS: [u8; 8] = [1, 4, 4, 0, 0, 0, 0, 0];
+
+// A record before, of the record after and an entry whose flags stand at a place.
+fn record_at(r: Event, s: &[u8], at: usize) -> Event
+    requires { ⌜ at ≤ length (now s) ⌝ }
+    ensures { λ x. ⌜ x ≡ eventFrom (rowFrom eventWidths (getD (now (s .entry)) at 0) (predictedEvent r) (drop (at + 1) (now (s .entry)))) ⌝ }
+{
+    let flags = byte_at(s, at);
+    let told = event_rows::row_of(r);
+    let predicted = told.fields;
+    let row = row_at(s, at + 1, WIDTHS, flags, predicted);
+    let fields = row.fields;
+    event_rows::from_row(fields)
+}
+
+// Where the entries begin: behind the byte that says that a bit changed.
+fn first_entry(s: &[u8]) -> usize
+    ensures { λ r. ⌜ r ≡ cond (bitChanged (now (s .entry))) 1 0 ⌝ }
+{
+    if byte_at(s, 0) == 8 { 1 } else { 0 }
+}
+
+// Entry by entry: id, flags, fields.
+pub fn events_before(new: [Event; 8], s: &[u8]) -> [Event; 8]
+    ensures { λ x. ⌜ x ≡ eventsBefore new (now (s .entry)) ⌝ }
+{
+    let mut a = new;
+    let mut p = first_entry(s);
+    while p < s.len() {
+        let i = s[p] as usize;
+        let at = p + 1;
+        p = at + 1 + used_by(WIDTHS, byte_at(s, at));
+        if i < 8 {
+            let r = new[i];
+            a[i] = record_at(r, s, at);
+        }
+    }
+    a
+}
+
+// Bit a the other way, where the section says so.
+pub fn bits_before(c: Call, word: u32, s: &[u8]) -> u32
+    ensures { λ x. ⌜ x ≡ bitsBefore c word (now (s .entry)) ⌝ }
+{
+    if byte_at(s, 0) != 8 {
+        return word;
+    }
+    if base_bits::bit(word, c.a) {
+        return base_bits::without_bit(word, c.a);
+    }
+    base_bits::with_bit(word, c.a)
+}

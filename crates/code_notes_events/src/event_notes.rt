@@ -1,0 +1,73 @@
+// The entries of events, and the byte of a changed event bit.
+ghost use mathlib.Core.Path.{_≡_};
+ghost use mathlib.Core.Bool.{cond, not};
+ghost use mathlib.Core.List.{[], _∷_};
+ghost use lib.Dec.{eqb};
+ghost use Rattle.base_bytes.specs.Pens.{pen, puts};
+ghost use Rattle.spec_notes.specs.Touched.{sameEvent};
+ghost use Rattle.spec_notes.specs.Sections.{eventNoted};
+ghost use Rattle.code_notes_events.specs.EventEntries.{eventEntries};
+use code_notes_entries::flagged::put_flagged;
+use base_bytes::pens::put_byte;
+use spec_kernel::records::Event;
+use crate::event_rows;
+
+const EVENT_WIDTHS: [u8; 8] = [1, 4, 4, 0, 0, 0, 0, 0];
+
+// An event before: its id, and what isn't as after the call.
+pub fn put_event(log: &mut [u8], at: usize, i: u8, old: Event, new: Event) -> usize
+    ensures { λ r. ⌜ pen (now (log .exit)) r ≡ puts (pen (now (log .entry)) at) (eventNoted i old new) ⌝ }
+{
+    let before = event_rows::row_of(old);
+    let told = event_rows::row_of(new);
+    let p = put_byte(log, at, i);
+    let fields = before.fields;
+    let predicted = told.fields;
+    put_flagged(log, p, EVENT_WIDTHS, fields, predicted)
+}
+
+// The same, where it changed.
+fn put_changed_event(log: &mut [u8], at: usize, i: u8, old: Event, new: Event) -> usize
+    ensures { λ r. ⌜ pen (now (log .exit)) r ≡ puts (pen (now (log .entry)) at) (cond (not (sameEvent old new)) (eventNoted i old new) []) ⌝ }
+{
+    if event_rows::same(old, new) {
+        return at;
+    }
+    put_event(log, at, i, old, new)
+}
+
+// The changed ones of `count` events from `first` on. Ids past the last have no record that changes.
+pub fn put_events(
+    log: &mut [u8],
+    at: usize,
+    old: [Event; 8],
+    new: [Event; 8],
+    first: u8,
+    count: u8,
+) -> usize
+    ensures { λ r. ⌜ pen (now (log .exit)) r ≡ puts (pen (now (log .entry)) at) (eventEntries old new first count) ⌝ }
+{
+    let mut p = at;
+    let mut i = first;
+    let mut left = count;
+    while 0 < left {
+        if 8 <= i {
+            return p;
+        }
+        let j = i as usize;
+        p = put_changed_event(log, p, i, old[j], new[j]);
+        i += 1;
+        left -= 1;
+    }
+    p
+}
+
+// A byte 8 where a bit changed.
+pub fn put_bits(log: &mut [u8], at: usize, old: u32, new: u32) -> usize
+    ensures { λ r. ⌜ pen (now (log .exit)) r ≡ puts (pen (now (log .entry)) at) (cond (eqb old new) [] (8 ∷ [])) ⌝ }
+{
+    if old == new {
+        return at;
+    }
+    put_byte(log, at, 8)
+}

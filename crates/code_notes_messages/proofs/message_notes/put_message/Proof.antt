@@ -1,0 +1,35 @@
+-- `writing::message_notes::put_message` meets its contract: the id, then what is flagged of the row.
+use Rattle.base_bytes.specs.Pens.{puts}
+use borrow.Author.Needs.{needs}
+use Rattle.code_notes_messages.proofs.message_notes.put_message.Statement.{statement}
+use Rattle.code_notes_messages.proofs.message_notes.put_message.Tie as tie
+
+row-of-requires : tie.Need-row-of-requires
+row-of-requires c κs = search needs
+
+predicted-requires : tie.Need-predicted-requires
+predicted-requires c κs = search needs
+
+put-byte-requires : tie.Need-put-byte-requires
+put-byte-requires c κs = search needs
+
+put-flagged-requires : tie.Need-put-flagged-requires
+put-flagged-requires c κs = search needs
+
+same-length : tie.Need-same-length
+same-length c = search needs
+
+returns : tie.Need-returns
+unfolding puts
+returns c = rw (c .before .before .put-flagged .ensures, c .before .before .before .before .before .before .before .before .put-byte .ensures, c .before .before .before .before .before .before .before .before .before .before .predicted .ensures, c .before .before .before .before .before .before .before .before .before .before .before .row-of .ensures)
+
+pub put-message-spec : {M : Type 1} → statement M
+put-message-spec =
+    tie.close
+    (tie.spec
+    row-of-requires
+    predicted-requires
+    put-byte-requires
+    put-flagged-requires
+    same-length
+    returns)

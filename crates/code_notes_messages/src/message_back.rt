@@ -1,0 +1,76 @@
+// The messages before a call, of those after it and the note's section, with who stood where among those that are posted.
+ghost use mathlib.Core.Path.{_≡_};
+ghost use Prim.Native.Nat.{_+_, _≤_};
+ghost use lib.ListN.{length, getD, drop, set};
+ghost use Rattle.base_rows.specs.Rows.{rowFrom, fitted};
+ghost use Rattle.spec_notes.specs.Rows.{messageWidths};
+ghost use Rattle.spec_notes.specs.Predicted.{predictedMessage};
+ghost use Rattle.spec_notes.specs.Back.{messagesBefore};
+ghost use Rattle.code_notes_messages.specs.Filed.{filing};
+use spec_calls::call::Call;
+use base_bytes::bytes::byte_at;
+use base_rows::rows::Row;
+use base_rows::rows::row_at;
+use base_rows::rows::used_by;
+use spec_kernel::records::Message;
+use crate::message_rows;
+use code_kernel_find::by_id;
+
+const WIDTHS: [u8; 8] = [1, 1, 1, 2, 4, 4, 1, 1];
+
+// The records, who was touched, and who stood at each place.
+pub struct Filing {
+    pub messages: [Message; 64],
+    pub out: [u8; 64],
+    pub at: [u8; 64],
+}
+
+// The row before, of the record after and an entry whose flags stand at a place. It fits its widths.
+fn row_before(c: Call, runner: u8, r: Message, s: &[u8], at: usize) -> Row
+    requires { ⌜ at ≤ length (now s) ⌝ }
+    ensures { λ x. ⌜ (x .fields ≡ rowFrom messageWidths (getD (now (s .entry)) at 0) (predictedMessage c runner r) (drop (at + 1) (now (s .entry)))) × (fitted messageWidths (x .fields) ≡ x .fields) ⌝ }
+{
+    let flags = byte_at(s, at);
+    let told = message_rows::predicted(c, runner, r);
+    let predicted = told.fields;
+    row_at(s, at + 1, WIDTHS, flags, predicted)
+}
+
+// x stored at a place, where the array has it.
+fn store(a: &mut [u8; 64], i: u32, x: u8)
+    requires { ⌜ length (now a) ≡ 64 ⌝ }
+    ensures { λ _. ⌜ now (a .exit) ≡ set (now (a .entry)) i x ⌝ }
+{
+    if i < 64 {
+        let j = i as usize;
+        a[j] = x;
+    }
+}
+
+// Entry by entry: id, flags, fields; `runner` is who runs after the call.
+pub fn messages_before(c: Call, runner: u8, new: [Message; 64], s: &[u8]) -> Filing
+    ensures { λ x. ⌜ filing x ≡ messagesBefore c runner new (now (s .entry)) ⌝ }
+{
+    let mut messages = new;
+    let mut out = [0u8; 64];
+    let mut places = [255u8; 64];
+    let mut p: usize = 0;
+    while p < s.len() {
+        let m = s[p];
+        let at = p + 1;
+        p = at + 1 + used_by(WIDTHS, byte_at(s, at));
+        let row = row_before(c, runner, by_id::message_at(new, m), s, at);
+        let fields = row.fields;
+        store(&mut out, m as u32, 1);
+        store(&mut places, fields[7], m);
+        if m < 64 {
+            let i = m as usize;
+            messages[i] = message_rows::from_row(fields);
+        }
+    }
+    Filing {
+        messages: messages,
+        out: out,
+        at: places,
+    }
+}

@@ -1,0 +1,38 @@
+-- `same::same_numbers` meets its contract: the first number that differs answers, and the last where none did.
+use mathlib.Core.Bool.{and-true}
+use borrow.Author.Tests.{eq-eqb, ne-eqb}
+use Rattle.spec_notes.specs.Same.{sameNumbers}
+use Rattle.code_notes_same.proofs.same_numbers.Statement.{statement}
+use Rattle.code_notes_same.proofs.same_numbers.Tie as tie
+
+returns : tie.Need-returns
+unfolding sameNumbers
+returns c = rw (ne-eqb _ _ (c .if1 .taken))
+
+returns-2 : tie.Need-returns-2
+unfolding sameNumbers
+returns-2 c = rw (eq-eqb _ _ (c .before .before .before .if1 .left), ne-eqb _ _ (c .if2 .taken))
+
+returns-3 : tie.Need-returns-3
+unfolding sameNumbers
+returns-3 c = rw (eq-eqb _ _ (c .before .before .before .before .before .before .if1 .left), eq-eqb _ _ (c .before .before .before .if2 .left), ne-eqb _ _ (c .if3 .taken))
+
+returns-4 : tie.Need-returns-4
+unfolding sameNumbers
+returns-4 c =
+    rw (eq-eqb _ _ (c .before .before .before .before .before .before .before .before .before .if1 .left), eq-eqb _ _ (c .before .before .before .before .before .before .if2 .left), eq-eqb _ _ (c .before .before .before .if3 .left), ne-eqb _ _ (c .if4 .taken))
+
+returns-5 : tie.Need-returns-5
+unfolding sameNumbers
+returns-5 c =
+    let d = c .before .before in
+    rw (
+      eq-eqb _ _ (d .before .before .before .before .before .before .before .before .before .if1 .left),
+      eq-eqb _ _ (d .before .before .before .before .before .before .if2 .left),
+      eq-eqb _ _ (d .before .before .before .if3 .left),
+      eq-eqb _ _ (d .if4 .left),
+      and-true,
+    )
+
+pub same-numbers-spec : {M : Type 1} → statement M
+same-numbers-spec = tie.close (tie.spec returns returns-2 returns-3 returns-4 returns-5)

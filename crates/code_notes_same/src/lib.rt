@@ -1,0 +1,162 @@
+// Whether two states are the same.
+ghost use mathlib.Core.Path.{_≡_};
+ghost use Rattle.spec_rules.specs.Tests.{allOf};
+ghost use Rattle.spec_notes.specs.Touched.{sameRow, sameThread, sameSemaphore, sameEvent, sameMessage};
+ghost use Rattle.spec_notes.specs.Same.{sameAll, sameQueue, sameNumbers, sameKernel};
+ghost use Rattle.code_notes_same.specs.OfRecords.{ofRecords};
+use spec_kernel::records::Event;
+use spec_kernel::records::Kernel;
+use spec_kernel::records::Message;
+use spec_kernel::records::Semaphore;
+use spec_kernel::records::Thread;
+use base_queue::Queue;
+use code_notes_events::event_rows;
+use code_notes_messages::message_rows;
+use code_notes_semaphores::semaphore_rows;
+use code_notes_thread_rows::thread_rows;
+
+fn same_threads(a: [Thread; 32], b: [Thread; 32]) -> bool
+    ensures { λ r. ⌜ r ≡ sameAll sameThread a b ⌝ }
+{
+    let mut i: usize = 0;
+    while i < 32 {
+        let x = a[i];
+        let y = b[i];
+        if !thread_rows::same(x, y) {
+            return false;
+        }
+        i += 1;
+    }
+    true
+}
+
+fn same_semaphores(a: [Semaphore; 16], b: [Semaphore; 16]) -> bool
+    ensures { λ r. ⌜ r ≡ sameAll sameSemaphore a b ⌝ }
+{
+    let mut i: usize = 0;
+    while i < 16 {
+        let x = a[i];
+        let y = b[i];
+        if !semaphore_rows::same(x, y) {
+            return false;
+        }
+        i += 1;
+    }
+    true
+}
+
+fn same_events(a: [Event; 8], b: [Event; 8]) -> bool
+    ensures { λ r. ⌜ r ≡ sameAll sameEvent a b ⌝ }
+{
+    let mut i: usize = 0;
+    while i < 8 {
+        let x = a[i];
+        let y = b[i];
+        if !event_rows::same(x, y) {
+            return false;
+        }
+        i += 1;
+    }
+    true
+}
+
+fn same_messages(a: [Message; 64], b: [Message; 64]) -> bool
+    ensures { λ r. ⌜ r ≡ sameAll sameMessage a b ⌝ }
+{
+    let mut i: usize = 0;
+    while i < 64 {
+        let x = a[i];
+        let y = b[i];
+        if !message_rows::same(x, y) {
+            return false;
+        }
+        i += 1;
+    }
+    true
+}
+
+fn same_places(a: [u8; 64], b: [u8; 64]) -> bool
+    ensures { λ r. ⌜ r ≡ sameRow a b ⌝ }
+{
+    let mut i: usize = 0;
+    while i < 64 {
+        if a[i] != b[i] {
+            return false;
+        }
+        i += 1;
+    }
+    true
+}
+
+fn same_queue(a: Queue, b: Queue) -> bool
+    ensures { λ r. ⌜ r ≡ sameQueue a b ⌝ }
+{
+    if a.n != b.n {
+        return false;
+    }
+    let x = a.at;
+    let y = b.at;
+    same_places(x, y)
+}
+
+// Bits, uptime, levels and runner.
+fn same_numbers(a: Kernel, b: Kernel) -> bool
+    ensures { λ r. ⌜ r ≡ sameNumbers a b ⌝ }
+{
+    if a.bits != b.bits {
+        return false;
+    }
+    if a.uptime != b.uptime {
+        return false;
+    }
+    if a.unscheduled != b.unscheduled {
+        return false;
+    }
+    if a.critical != b.critical {
+        return false;
+    }
+    a.runner == b.runner
+}
+
+// The four kinds of records.
+fn same_records(a: Kernel, b: Kernel) -> bool
+    ensures { λ r. ⌜ r ≡ allOf (ofRecords a b) ⌝ }
+{
+    let threads = a.threads;
+    let semaphores = a.semaphores;
+    let events = a.events;
+    let messages = a.messages;
+    let other_threads = b.threads;
+    let other_semaphores = b.semaphores;
+    let other_events = b.events;
+    let other_messages = b.messages;
+    if !same_threads(threads, other_threads) {
+        return false;
+    }
+    if !same_semaphores(semaphores, other_semaphores) {
+        return false;
+    }
+    if !same_events(events, other_events) {
+        return false;
+    }
+    same_messages(messages, other_messages)
+}
+
+// Whether two states are the same.
+pub fn same_kernel(a: Kernel, b: Kernel) -> bool
+    ensures { λ r. ⌜ r ≡ sameKernel a b ⌝ }
+{
+    if !same_records(a, b) {
+        return false;
+    }
+    if !same_queue(a.places, b.places) {
+        return false;
+    }
+    if !same_queue(a.time, b.time) {
+        return false;
+    }
+    if !same_queue(a.posted, b.posted) {
+        return false;
+    }
+    same_numbers(a, b)
+}

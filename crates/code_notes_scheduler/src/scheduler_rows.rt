@@ -1,0 +1,59 @@
+// The scheduler's own values as a row: levels and runner.
+ghost use mathlib.Core.Path.{_≡_};
+ghost use Prim.Native.Nat.{_+_, _-_};
+ghost use mathlib.Core.Bool.{cond};
+ghost use Rattle.spec_notes.specs.Rows.{schedulerRow};
+ghost use Rattle.spec_notes.specs.Predicted.{predictedLevels};
+use spec_calls::call::Call;
+use base_rows::rows::Row;
+
+pub fn row_of(unscheduled: u8, critical: u8, runner: u8) -> Row
+    ensures { λ x. ⌜ x .fields ≡ schedulerRow unscheduled critical runner ⌝ }
+{
+    Row {
+        fields: [
+            unscheduled as u32,
+            critical as u32,
+            runner as u32,
+            0,
+            0,
+            0,
+            0,
+            0,
+        ],
+    }
+}
+
+// A level before it was pushed or popped. Above 255 it is written out, so it isn't cut to a byte here.
+fn level_before(pushed: bool, popped: bool, level: u8) -> u32
+    ensures { λ r. ⌜ r ≡ cond pushed (level - 1) (cond popped (level + 1) level) ⌝ }
+{
+    if pushed {
+        if level == 0 {
+            return 0;
+        }
+        return (level - 1) as u32;
+    }
+    if popped {
+        return (level as u32) + 1;
+    }
+    level as u32
+}
+
+// What the call and the values after it tell of the values before.
+pub fn predicted(c: Call, unscheduled: u8, critical: u8, runner: u8) -> Row
+    ensures { λ x. ⌜ x .fields ≡ predictedLevels c unscheduled critical runner ⌝ }
+{
+    Row {
+        fields: [
+            level_before(c.kind == 8, c.kind == 9, unscheduled),
+            level_before(c.kind == 11, c.kind == 12, critical),
+            runner as u32,
+            0,
+            0,
+            0,
+            0,
+            0,
+        ],
+    }
+}

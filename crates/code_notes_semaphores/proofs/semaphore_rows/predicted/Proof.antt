@@ -1,0 +1,26 @@
+-- `rows::semaphore_rows::predicted` meets its contract: a new semaphore, and any other.
+use borrow.Author.Tests.{ne-eqb}
+use Rattle.spec_notes.specs.Predicted.{predictedSemaphore}
+use borrow.Author.Needs.{needs}
+use Rattle.code_notes_semaphores.proofs.semaphore_rows.predicted.Statement.{statement}
+use Rattle.code_notes_semaphores.proofs.semaphore_rows.predicted.Tie as tie
+
+returns : tie.Need-returns
+unfolding predictedSemaphore
+returns c = rw (c .if1 .taken)
+
+cast-t5 : tie.Need-cast-t5
+cast-t5 c = search needs
+
+cast-t6 : tie.Need-cast-t6
+cast-t6 c = search needs
+
+either-requires : tie.Need-either-requires
+either-requires c κs = search needs
+
+returns-2 : tie.Need-returns-2
+unfolding predictedSemaphore
+returns-2 c = rw (ne-eqb _ 14 (c .before .before .before .before .if1 .left), c .either .ensures)
+
+pub predicted-spec : {M : Type 1} → statement M
+predicted-spec = tie.close (tie.spec returns cast-t5 cast-t6 either-requires returns-2)

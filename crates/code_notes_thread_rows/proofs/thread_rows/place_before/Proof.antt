@@ -1,0 +1,21 @@
+-- `rows::thread_rows::place_before` meets its contract: each code of a thread that stood in a list has its arm.
+use borrow.Author.Tests.{ne-eqb}
+use Rattle.code_notes_thread_rows.proofs.thread_rows.place_before.Statement.{statement}
+use Rattle.code_notes_thread_rows.proofs.thread_rows.place_before.Tie as tie
+
+returns : tie.Need-returns
+returns c = rw (c .match .keys1)
+
+returns-2 : tie.Need-returns-2
+returns-2 c = rw (c .match .keys2)
+
+returns-3 : tie.Need-returns-3
+returns-3 c = rw (c .match .keys3)
+
+returns-4 : tie.Need-returns-4
+returns-4 c =
+    let r = c .match .rest in
+    rw (ne-eqb _ 1 (r .0 .0 .1), ne-eqb _ 3 (r .0 .1), ne-eqb _ 4 (r .1))
+
+pub place-before-spec : {M : Type 1} → statement M
+place-before-spec = tie.close (tie.spec returns returns-2 returns-3 returns-4)

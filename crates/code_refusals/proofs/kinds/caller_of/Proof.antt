@@ -1,0 +1,20 @@
+-- `refusing::kinds::caller_of` meets its contract: the array is the table's first column.
+use borrow.Author.Needs.{needs}
+use Rattle.code_refusals.proofs.Columns.{column-at, column-past}
+use Rattle.code_refusals.proofs.kinds.caller_of.Statement.{statement}
+use Rattle.code_refusals.proofs.kinds.caller_of.Tie as tie
+
+cast-i : tie.Need-cast-i
+cast-i c = search needs
+
+array-read-result : tie.Need-array-read-result
+array-read-result c = search needs
+
+returns : tie.Need-returns
+returns c = column-at (λ r. r .caller) (c .before .before .args .c) (c .if1 .taken)
+
+returns-2 : tie.Need-returns-2
+returns-2 c = column-past (λ r. r .caller) (c .before .before .args .c) (c .if1 .left)
+
+pub caller-of-spec : {M : Type 1} → statement M
+caller-of-spec = tie.close (tie.spec cast-i array-read-result returns returns-2)

@@ -1,0 +1,82 @@
+-- What the proofs of the functions share: a loop over the places of a table, a loop over the records.
+use Prim.Native.Nat.{ℕ, _+_, _≤_, _<_}
+use mathlib.Core.Path.{_≡_, refl, _∙_}
+use mathlib.Core.Bool.{Bool, true, false, not}
+use mathlib.Core.List.{List}
+use native.Mathlib.Numerals.{add-one}
+use native.Mathlib.Omega.{arith}
+use lib.Dec.{eqb}
+use lib.ListN.{length, take, drop, getD, drop-of-length-le}
+use lib.Seq.{drop-cons}
+use borrow.Author.Tests.{eq-eqb, ne-eqb, le-leb, lt-leb}
+use Rattle.base_queue.specs.declared.Queue.{Queue}
+use Rattle.base_queue.specs.Lists.{everyFrom, count, below}
+use Rattle.base_queue.specs.Queues.{items}
+use Rattle.base_queue.specs.Tables.{one, isPlaced, isOrderedFrom}
+use Rattle.base_queue.proofs.Lists.{rest-next, rest-end}
+use Rattle.base_queue.proofs.Queues.{Walk, walk-start, sized-items}
+use Rattle.code_rules_records.proofs.Answers.{refused, passed}
+
+-- a loop over the n places of a table, of which i are done: their keys rise up to `low`
+abbrev pub Climb : (ℕ → ℕ) → List ℕ → ℕ → ℕ → ℕ → Type 0
+Climb key at n low i = Walk at n i × (isOrderedFrom 0 key (take n at) ≡ isOrderedFrom low key (drop i (take n at)))
+
+module _ (key : ℕ → ℕ) (q : Queue) (n : ℕ) (s : n ≡ length (items q)) where
+  pub climb-starts : length (q .at) ≡ 64 → Climb key (q .at) n 0 0
+  climb-starts e = (walk-start q n s 0 (omega arith) e, refl)
+
+  module _ (low i : ℕ) (w : Climb key (q .at) n low i) where
+    -- x is the next key
+    module _ (x : ℕ) (m : x ≡ key (getD (q .at) i 0)) (h : i < n) where
+      pub climb-stops : x < low → false ≡ isOrderedFrom 0 key (items q)
+      climb-stops p = rw (sized-items q n s, w .1, rest-next 0 (q .at) n i h (omega arith), ← m, lt-leb _ _ p)
+
+      pub climb-goes : low ≤ x → Climb key (q .at) n x (i + 1)
+      climb-goes p = (omega arith, w .1 ∙ rw (rest-next 0 (q .at) n i h (omega arith), ← m, le-leb _ _ p))
+
+    pub climb-ends : n ≤ i → true ≡ isOrderedFrom 0 key (items q)
+    climb-ends h = rw (sized-items q n s, w .1, rest-end (q .at) n i (omega arith))
+
+-- a loop over n records, of which i are done: the test of all is that of the rest
+abbrev pub Sweep : {A : Type 0} → Bool → (ℕ → A → Bool) → List A → ℕ → ℕ → Type 0
+Sweep all test records n i = (length records ≡ n) × (i ≤ n) × (all ≡ everyFrom test i (drop i records))
+
+module _ {A : Type 0} {all : Bool} (test : ℕ → A → Bool) (none : A) (records : List A) {n : ℕ} (i : ℕ) (w : Sweep all test records n i) where
+  pub sweep-stops : i < n → test i (getD records i none) ≡ false → false ≡ all
+  sweep-stops h p = rw (w .2, drop-cons records i none (omega arith), p)
+
+  pub sweep-goes : i < n → test i (getD records i none) ≡ true → Sweep all test records n (i + 1)
+  sweep-goes h p = (w .0, omega arith, w .2 ∙ rw (drop-cons records i none (omega arith), p, add-one))
+
+  pub sweep-ends : n ≤ i → true ≡ all
+  sweep-ends h = let past : length records ≤ i = omega arith in rw (w .2, drop-of-length-le records past)
+
+-- the same where the test is that each record's id stands in a table as often as it belongs there
+module _ {A : Type 0} (belongs : A → Bool) (records : List A) (l : List ℕ) where
+  abbrev test : ℕ → A → Bool
+  test x r = eqb (count x l) (one (belongs r))
+
+  abbrev pub Stand : ℕ → ℕ → Type 0
+  Stand n i = Sweep (isPlaced belongs records l) test records n i
+
+  -- b says whether every id in the table is a record's
+  module _ {n : ℕ} (full : length records ≡ n) {b : Bool} (e : b ≡ below n l) where
+    pub stand-refused : not b ≡ true → false ≡ isPlaced belongs records l
+    unfolding isPlaced
+    stand-refused p = rw (full, refused e p)
+
+    pub stand-starts : not b ≡ false → Stand n 0
+    unfolding isPlaced
+    stand-starts p = (full, omega arith, rw (full, passed e p))
+
+  module _ (none : A) {n : ℕ} (i : ℕ) (w : Stand n i) where
+    -- the next one stands there `times`, and ought to `due`
+    module _ (h : i < n) {times due : ℕ} {b : Bool} (e : times ≡ count i l) (d : due ≡ one b) (f : b ≡ belongs (getD records i none)) where
+      pub stand-stops : (times ≡ due → ⊥) → false ≡ isPlaced belongs records l
+      stand-stops p = sweep-stops test none records i w h (rw (← e, ← f, ← d) (ne-eqb _ _ p))
+
+      pub stand-goes : times ≡ due → Stand n (i + 1)
+      stand-goes p = sweep-goes test none records i w h (rw (← e, ← f, ← d) (eq-eqb _ _ p))
+
+    pub stand-ends : n ≤ i → true ≡ isPlaced belongs records l
+    stand-ends h = sweep-ends test none records i w h

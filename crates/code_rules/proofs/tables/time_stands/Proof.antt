@@ -1,0 +1,94 @@
+-- `rules::tables::time_stands` meets its contract: each of the t threads passed stands there as often as it has ticks left, so the rest decides.
+use Prim.Native.Nat.{_-_}
+use mathlib.Core.Path.{_≡_, refl}
+use native.Mathlib.Omega.{arith}
+use lib.ListN.{length}
+use borrow.Author.Needs.{needs}
+use Rattle.base_queue.specs.Queues.{items}
+use Rattle.spec_kernel.specs.Records.{noThread}
+use Rattle.spec_rules.specs.Tests.{isTicking}
+use Rattle.code_rules.proofs.Loops.{Stand, stand-refused, stand-starts, stand-stops, stand-goes, stand-ends}
+use Rattle.code_rules.proofs.tables.time_stands.Statement.{statement}
+use Rattle.code_rules.proofs.tables.time_stands.Tie as tie
+
+abbrev Inv-loop : tie.InvT-loop
+Inv-loop q records t₀ t = Stand isTicking records (items q) 32 t
+
+abbrev μ-loop : tie.MeasureT-loop
+μ-loop q records t₀ t = 32 - t
+
+all-below-requires : tie.Need-all-below-requires Inv-loop μ-loop
+all-below-requires c κs = search needs
+
+returns : tie.Need-returns Inv-loop μ-loop
+returns c =
+    let a = c .before .before .args in
+    let e : length (a .t1) ≡ 32 = search needs in
+    stand-refused isTicking (a .t1) (items (a .q)) e (c .before .all-below .ensures) (c .if1 .taken)
+
+loop-holds : tie.Need-loop-holds Inv-loop μ-loop
+loop-holds c =
+    let a = c .before .before .args in
+    let e : length (a .t1) ≡ 32 = search needs in
+    stand-starts isTicking (a .t1) (items (a .q)) e (c .before .all-below .ensures) (c .if1 .left)
+
+mul-r : tie.Need-mul-r Inv-loop μ-loop
+mul-r c = search needs
+
+array-copy-out-r : tie.Need-array-copy-out-r Inv-loop μ-loop
+array-copy-out-r c = search needs
+
+cast-count : tie.Need-cast-count Inv-loop μ-loop
+cast-count c = search needs
+
+count-requires : tie.Need-count-requires Inv-loop μ-loop
+count-requires c κs = search needs
+
+times-requires : tie.Need-times-requires Inv-loop μ-loop
+times-requires c κs = search needs
+
+returns-2 : tie.Need-returns-2 Inv-loop μ-loop
+returns-2 c =
+    let a = c .before .before .before .before .before .before .before .before .before .args in
+    let l = c .before .before .before .before .before .before .loop in
+    stand-stops isTicking (a .t1) (items (a .q)) noThread (l .t) (l .inv) (omega arith)
+    (c .before .before .before .count .ensures) (c .before .times .ensures) refl (λ e. omega arith)
+
+add-t : tie.Need-add-t Inv-loop μ-loop
+add-t c = search needs
+
+loop-less : tie.Need-loop-less Inv-loop μ-loop
+loop-less c = search needs
+
+loop-again : tie.Need-loop-again Inv-loop μ-loop
+loop-again c =
+    let a = c .before .before .before .before .before .before .before .before .before .args in
+    let l = c .before .before .before .before .before .before .loop in
+    stand-goes isTicking (a .t1) (items (a .q)) noThread (l .t) (l .inv) (omega arith)
+    (c .before .before .before .count .ensures) (c .before .times .ensures) refl (omega arith)
+
+returns-3 : tie.Need-returns-3 Inv-loop μ-loop
+returns-3 c =
+    let a = c .before .before .before .before .args in
+    let l = c .before .loop in
+    stand-ends isTicking (a .t1) (items (a .q)) noThread (l .t) (l .inv) (omega arith)
+
+pub time-stands-spec : {M : Type 1} → statement M
+time-stands-spec =
+    tie.close
+    (tie.spec
+    Inv-loop
+    μ-loop
+    all-below-requires
+    returns
+    loop-holds
+    mul-r
+    array-copy-out-r
+    cast-count
+    count-requires
+    times-requires
+    returns-2
+    add-t
+    loop-less
+    loop-again
+    returns-3)

@@ -1,0 +1,74 @@
+-- `rules::records::condition_kept` meets its contract, case by case.
+use native.Mathlib.Omega.{arith}
+use borrow.Author.Tests.{lt-ltb, le-ltb}
+use borrow.Author.Needs.{needs}
+use Rattle.spec_rules.specs.Tests.{conditionKept}
+use Rattle.code_rules_records.proofs.condition_kept.Statement.{statement}
+use Rattle.code_rules_records.proofs.condition_kept.Tie as tie
+
+enum-told : tie.Need-enum-told
+enum-told c = search needs
+
+enum-told-2 : tie.Need-enum-told-2
+enum-told-2 c = search needs
+
+enum-known-c : tie.Need-enum-known-c
+enum-known-c c = search needs
+
+semaphore-waited-requires : tie.Need-semaphore-waited-requires
+semaphore-waited-requires c κs = search needs
+
+enum-known-c-2 : tie.Need-enum-known-c-2
+enum-known-c-2 c = search needs
+
+event-waited-requires : tie.Need-event-waited-requires
+event-waited-requires c κs = search needs
+
+enum-known-c-3 : tie.Need-enum-known-c-3
+enum-known-c-3 c = search needs
+
+returns : tie.Need-returns
+unfolding conditionKept
+returns c =
+    let m = c .before .before .c3 .given in
+    rw (m .1, le-ltb 0 (m .0 .0) (omega arith))
+
+returns-2 : tie.Need-returns-2
+unfolding conditionKept
+returns-2 c = rw (c .enum-told .given .1)
+
+returns-3 : tie.Need-returns-3
+unfolding conditionKept
+returns-3 c = rw (c .enum-told2 .given .1)
+
+returns-4 : tie.Need-returns-4
+unfolding conditionKept
+returns-4 c = rw (c .before .before .c .given .1) (c .semaphore-waited .ensures)
+
+returns-5 : tie.Need-returns-5
+unfolding conditionKept
+returns-5 c = rw (c .before .before .c2 .given .1) (c .event-waited .ensures)
+
+returns-6 : tie.Need-returns-6
+unfolding conditionKept
+returns-6 c =
+    let m = c .before .before .c3 .given in
+    rw (m .1, lt-ltb 0 (m .0 .0) (omega arith))
+
+pub condition-kept-spec : {M : Type 1} → statement M
+condition-kept-spec =
+    tie.close
+    (tie.spec
+    enum-told
+    enum-told-2
+    enum-known-c
+    semaphore-waited-requires
+    enum-known-c-2
+    event-waited-requires
+    enum-known-c-3
+    returns
+    returns-2
+    returns-3
+    returns-4
+    returns-5
+    returns-6)

@@ -1,0 +1,26 @@
+-- `objects::semaphores::with_semaphore` meets its contract: past the last semaphore nothing is stored.
+use mathlib.Core.Path.{_≡_, sym, _∙_}
+use native.Mathlib.Omega.{arith}
+use lib.ListN.{length, length-map}
+use lib.Seq.{set-out}
+use borrow.Author.Needs.{needs}
+use Rattle.code_semaphores.proofs.semaphores.with_semaphore.Statement.{statement}
+use Rattle.code_semaphores.proofs.semaphores.with_semaphore.Tie as tie
+
+mul-r : tie.Need-mul-r
+mul-r c = search needs
+
+element-set-from-r : tie.Need-element-set-from-r
+element-set-from-r c = search needs
+
+returns : tie.Need-returns
+returns c = search needs
+
+returns-2 : tie.Need-returns-2
+returns-2 c =
+    let k = c .before .args .k in
+    let e : length (k .semaphores) ≡ 16 = sym (length-map (k .semaphores) _) ∙ c .before .good .0 .1 .1 .1 .0 .1 .0 .1 in
+    rw (set-out (k .semaphores) (c .before .args .i) (c .before .args .r) (omega arith))
+
+pub with-semaphore-spec : {M : Type 1} → statement M
+with-semaphore-spec = tie.close (tie.spec mul-r element-set-from-r returns returns-2)

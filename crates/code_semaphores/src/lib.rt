@@ -1,0 +1,3 @@
+// Semaphores: create, destroy, periodic, pend and post.
+pub mod semaphores;
+pub mod waiting;

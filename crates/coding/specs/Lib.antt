@@ -1,4 +1,0 @@
-pub mod Bytes
-pub mod Pens
-pub mod Rows
-pub mod Logs

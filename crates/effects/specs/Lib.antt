@@ -1,2 +1,0 @@
-pub mod Time
-pub mod Effects

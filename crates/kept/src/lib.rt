@@ -1,1 +1,0 @@
-// What every accepted call keeps: theorems about the definitions, with no code.

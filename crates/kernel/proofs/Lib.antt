@@ -1,5 +1,0 @@
--- The laws of the moves, and those that the functions' proofs share.
-pub mod Joins
-pub mod Posts
-pub mod Rejoined
-pub mod Threads

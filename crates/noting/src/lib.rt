@@ -1,2 +1,0 @@
-// The parts of a call's note.
-pub mod note;

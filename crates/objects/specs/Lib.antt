@@ -1,4 +1,0 @@
-pub mod Waiting
-pub mod Semaphores
-pub mod Events
-pub mod Messages

@@ -1,0 +1,16 @@
+pub mod Accepted
+pub mod Core
+pub mod Ends
+pub mod Steps
+pub mod AllThreads
+pub mod OfMessages
+pub mod OfDestroy
+pub mod Wakings
+pub mod OfEvents
+pub mod Free
+pub mod Semaphores
+pub mod OfTime
+pub mod Regions
+pub mod Threads
+pub mod Effects
+pub mod Kept

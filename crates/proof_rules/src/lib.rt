@@ -1,0 +1,1 @@
+// Every accepted call keeps the state rules: theorems only.

@@ -1,3 +1,0 @@
-pub mod Free
-pub mod Channels
-pub mod Lines

@@ -1,4 +1,0 @@
-// Finding: the record of an id, a free id, the first thread of a list or queue, the next message of a thread.
-pub mod free;
-pub mod lines;
-pub mod records;

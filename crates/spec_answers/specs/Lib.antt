@@ -1,0 +1,5 @@
+pub mod Steps
+pub mod Logs
+pub mod Runs
+pub mod Promises
+pub mod Samples

@@ -1,0 +1,71 @@
+-- A call with a lent log, and the undo of the last note: what comes back, the next state, the used length, and the log.
+use Prim.Native.Nat.{ℕ, _+_, _-_}
+use mathlib.Core.Bool.{cond}
+use mathlib.Core.List.{List, []}
+use lib.Dec.{eqb}
+use lib.ListN.{length}
+use Rattle.base_bytes.specs.Logs.{room, noted, shown}
+use Rattle.spec_kernel.specs.declared.records.Kernel.{Kernel}
+use Rattle.spec_rules.specs.Tests.{keepsRules}
+use Rattle.spec_calls.specs.Calls.{callOf}
+use Rattle.spec_refusals.specs.Refusals.{numberOf}
+use Rattle.spec_effects.specs.Effects.{valueOf}
+use Rattle.spec_notes.specs.Notes.{noteOf}
+use Rattle.spec_notes.specs.Undo.{lastLength, lastNote}
+use Rattle.spec_notes.specs.Undoes.{backFrom, undoes}
+use Rattle.spec_answers.specs.declared.Answer.{Answer}
+use Rattle.spec_answers.specs.declared.Logged.{Logged}
+use Rattle.spec_answers.specs.Steps.{answer, nextState}
+
+abbrev pub logged : Answer → Kernel → ℕ → Logged
+logged x k used = record { answer = x; kernel = k; used = used }
+
+-- the state after the call, where it is accepted
+abbrev pub nextOf : Kernel → List ℕ → Kernel
+nextOf k bytes = nextState k (callOf bytes)
+
+-- its note
+unfoldable pub noteFor : Kernel → List ℕ → List ℕ
+noteFor k bytes = noteOf k bytes (nextOf k bytes)
+
+-- ---- on a state that keeps its rules
+-- "13: the note is longer than the log's unused room"; it comes after every other number
+unfoldable pub recorded : Kernel → List ℕ → List ℕ → ℕ → Logged
+recorded k bytes log used =
+    cond (eqb (numberOf k (callOf bytes)) 0)
+    (cond (room log used (noteFor k bytes))
+    (logged (answer 0 (valueOf k (callOf bytes)) (nextOf k bytes .runner)) (nextOf k bytes) (used + length (noteFor k bytes)))
+    (logged (answer 13 255 (k .runner)) k used))
+    (logged (answer (numberOf k (callOf bytes)) 255 (k .runner)) k used)
+
+-- "Each accepted call appends one note"; on a refusal not one byte changes
+unfoldable pub logAfter : Kernel → List ℕ → List ℕ → ℕ → List ℕ
+logAfter k bytes log used = cond (eqb (numberOf k (callOf bytes)) 0) (noted log used (noteFor k bytes)) log
+
+-- "the very part of the log that it wrote, or an empty part on a refusal"
+unfoldable pub partAfter : Kernel → List ℕ → List ℕ → ℕ → List ℕ
+partAfter k bytes log used = cond (eqb (numberOf k (callOf bytes)) 0) (shown log used (noteFor k bytes)) []
+
+-- ---- on any state
+unfoldable pub calledWith : Kernel → List ℕ → List ℕ → ℕ → Logged
+calledWith k bytes log used = cond (keepsRules k) (recorded k bytes log used) (logged (answer 14 255 255) k used)
+
+unfoldable pub logCalled : Kernel → List ℕ → List ℕ → ℕ → List ℕ
+logCalled k bytes log used = cond (keepsRules k) (logAfter k bytes log used) log
+
+unfoldable pub partCalled : Kernel → List ℕ → List ℕ → ℕ → List ℕ
+partCalled k bytes log used = cond (keepsRules k) (partAfter k bytes log used) []
+
+-- ---- "An undo answers 0, 14 or 15."
+-- the earlier state that the last note leads back to
+abbrev pub backAt : Kernel → List ℕ → ℕ → Kernel
+backAt k log used = backFrom k (lastNote log used)
+
+-- "A successful undo returns value 255, the earlier state, its runner and the length of log before the note, and leaves the log's bytes."
+unfoldable pub undone : Kernel → List ℕ → ℕ → Logged
+undone k log used =
+    cond (keepsRules k)
+    (cond (undoes k log used)
+    (logged (answer 0 255 (backAt k log used .runner)) (backAt k log used) (used - lastLength log used))
+    (logged (answer 15 255 (k .runner)) k used))
+    (logged (answer 14 255 255) k used)

@@ -1,0 +1,153 @@
+-- What the user asked, each demand as a named type over the definitions. The proofs beside this file have a line for each.
+use Prim.Native.Nat.{ℕ, _+_, _≤_, _<_}
+use mathlib.Core.Path.{_≡_}
+use mathlib.Core.Bool.{true, false, cond}
+use mathlib.Core.List.{List, []}
+use mathlib.Core.Logic.{_↔_}
+use lib.ListN.{length, getD}
+use Rattle.spec_kernel.specs.declared.records.Kernel.{Kernel}
+use Rattle.spec_kernel.specs.Runner.{firstReady}
+use Rattle.spec_rules.specs.Rules.{Sized, Rules}
+use Rattle.spec_rules.specs.Tests.{keepsRules}
+use Rattle.spec_calls.specs.Calls.{callOf}
+use Rattle.spec_refusals.specs.Refusals.{refusals}
+use Rattle.base_bytes.specs.Logs.{room}
+use Rattle.spec_notes.specs.Within.{Within}
+use Rattle.spec_notes.specs.Counts.{mostBytes}
+use Rattle.spec_notes.specs.Undo.{lastNote, Yields}
+use Rattle.spec_answers.specs.declared.Logged.{Logged}
+use Rattle.spec_answers.specs.Steps.{answer, called}
+use Rattle.spec_answers.specs.Logs.{logged, nextOf, noteFor, calledWith, logCalled, partCalled, undone}
+use Rattle.spec_answers.specs.Runs.{AreRecords, trail, backTimes, stateAt, begun, run, undoneTimes, pointAt}
+
+-- ---- Demand 1: "Any sixteen bytes may arrive as a call, with any state. Each is answered."
+-- Number 14 exactly where the state breaks a state rule; it gives 255 for both, and the same state.
+unfoldable pub BrokenIsRefused : Type 0
+BrokenIsRefused =
+    (k : Kernel) (bytes : List ℕ) → Sized k
+    → (called k bytes .answer .number ≡ 14) ↔ (Rules k → ⊥)
+
+unfoldable pub BrokenIsSame : Type 0
+BrokenIsSame =
+    (k : Kernel) (bytes : List ℕ) → keepsRules k ≡ false
+    → called k bytes ≡ record { answer = answer 14 255 255; kernel = k }
+
+-- "A refusal gives its number under exactly the conditions stated there": entry i of the table of refusals is given
+-- exactly when its condition holds and none before it does.
+unfoldable pub RefusedExactly : Type 0
+RefusedExactly =
+    (k : Kernel) (bytes : List ℕ) (i : ℕ) → Sized k → Rules k → i < 12
+    → (called k bytes .answer .number ≡ getD (refusals k (callOf bytes)) i (0, false) .0)
+    ↔ ((getD (refusals k (callOf bytes)) i (0, false) .1 ≡ true)
+    × ((j : ℕ) → j < i → getD (refusals k (callOf bytes)) j (0, false) .1 ≡ false))
+
+-- Accepted exactly when no condition holds.
+unfoldable pub AcceptedExactly : Type 0
+AcceptedExactly =
+    (k : Kernel) (bytes : List ℕ) → Sized k → Rules k
+    → (called k bytes .answer .number ≡ 0) ↔ ((i : ℕ) → getD (refusals k (callOf bytes)) i (0, false) .1 ≡ false)
+
+-- "and changes neither the state nor one byte of the log"; value 255 and the runner as before.
+unfoldable pub RefusalChangesNothing : Type 0
+RefusalChangesNothing =
+    (k : Kernel) (bytes : List ℕ) → keepsRules k ≡ true → (called k bytes .answer .number ≡ 0 → ⊥)
+    → (called k bytes .kernel ≡ k) × (called k bytes .answer .value ≡ 255) × (called k bytes .answer .runner ≡ k .runner)
+
+-- ---- Demand 2: "Every accepted call, tick or interrupt post gives the next state, answer and running thread."
+-- The rules are kept by every call, accepted or refused.
+unfoldable pub RulesAreKept : Type 0
+RulesAreKept =
+    (k : Kernel) (bytes : List ℕ) → Sized k → Rules k → Sized (called k bytes .kernel) × Rules (called k bytes .kernel)
+
+-- The answer names the running thread of the next state.
+unfoldable pub RunnerIsAnswered : Type 0
+RunnerIsAnswered =
+    (k : Kernel) (bytes : List ℕ) → Sized k → Rules k → called k bytes .answer .runner ≡ called k bytes .kernel .runner
+
+-- "With no region held the running thread is the first ready one of the highest priority, or none."
+unfoldable pub FirstReadyRuns : Type 0
+FirstReadyRuns =
+    (k : Kernel) (bytes : List ℕ) → Sized k → Rules k
+    → called k bytes .kernel .unscheduled + called k bytes .kernel .critical ≡ 0
+    → called k bytes .kernel .runner ≡ firstReady (called k bytes .kernel)
+
+-- Inside a region it stays.
+unfoldable pub RunnerStaysInRegion : Type 0
+RunnerStaysInRegion =
+    (k : Kernel) (bytes : List ℕ) → Sized k → Rules k
+    → 0 < called k bytes .kernel .unscheduled + called k bytes .kernel .critical
+    → called k bytes .kernel .runner ≡ k .runner
+
+-- Two results that the contract allows are equal, and so are the two logs.
+unfoldable pub OneResult : Type 0
+OneResult =
+    (k : Kernel) (bytes log : List ℕ) (used : ℕ) (r s : Logged) (l m : List ℕ)
+    → (r ≡ calledWith k bytes log used) × (l ≡ logCalled k bytes log used)
+    → (s ≡ calledWith k bytes log used) × (m ≡ logCalled k bytes log used)
+    → (r ≡ s) × (l ≡ m)
+
+-- ---- Demand 1 with a log: a call answers as above, but for number 13.
+-- "13: the note is longer than the log's unused room", where no other number is given.
+unfoldable pub ThirteenExactly : Type 0
+ThirteenExactly =
+    (k : Kernel) (bytes log : List ℕ) (used : ℕ)
+    → (calledWith k bytes log used .answer .number ≡ 13)
+    ↔ ((called k bytes .answer .number ≡ 0) × (room log used (noteFor k bytes) ≡ false))
+
+-- Every other answer, and its state, as above.
+unfoldable pub AnsweredAlike : Type 0
+AnsweredAlike =
+    (k : Kernel) (bytes log : List ℕ) (used : ℕ) → (calledWith k bytes log used .answer .number ≡ 13 → ⊥)
+    → (calledWith k bytes log used .answer ≡ called k bytes .answer) × (calledWith k bytes log used .kernel ≡ called k bytes .kernel)
+
+-- "No refusal touches state or log": the state, the used length and every byte stay, and the part is empty.
+unfoldable pub RefusalLeavesLog : Type 0
+RefusalLeavesLog =
+    (k : Kernel) (bytes log : List ℕ) (used : ℕ) → (calledWith k bytes log used .answer .number ≡ 0 → ⊥)
+    → (calledWith k bytes log used .kernel ≡ k) × (calledWith k bytes log used .used ≡ used) × (logCalled k bytes log used ≡ log)
+    × (length (partCalled k bytes log used) ≡ 0)
+
+-- ---- Demand 3: "Undo accepts a last note exactly if some state and call yield this end state and this note."
+unfoldable pub UndoneExactly : Type 0
+UndoneExactly =
+    (k′ : Kernel) (log : List ℕ) (used : ℕ) → Sized k′ → Rules k′ → Within k′ → ((i : ℕ) → getD log i 0 < 256)
+    → (undone k′ log used .answer .number ≡ 0)
+    ↔ ((k : Kernel) × (bytes : List ℕ) × Yields k bytes k′ (lastNote log used))
+
+-- It then gives that state, its runner, value 255 and the length of log before the note.
+unfoldable pub UndoneIsThat : Type 0
+UndoneIsThat =
+    (k k′ : Kernel) (bytes log : List ℕ) (used : ℕ) → Sized k′ → Rules k′ → Yields k bytes k′ (lastNote log used)
+    → (undone k′ log used .answer ≡ answer 0 255 (k .runner)) × (undone k′ log used .kernel ≡ k)
+    × (undone k′ log used .used + length (lastNote log used) ≡ used)
+
+-- Else 15, or 14 where the state breaks a rule; the state and the used length stay.
+unfoldable pub UndoRefused : Type 0
+UndoRefused =
+    (k′ : Kernel) (log : List ℕ) (used : ℕ) → (undone k′ log used .answer .number ≡ 0 → ⊥)
+    → undone k′ log used ≡ cond (keepsRules k′) (logged (answer 15 255 (k′ .runner)) k′ used) (logged (answer 14 255 255) k′ used)
+
+-- "Each note stays within document 01's length formula."
+unfoldable pub NotesAreShort : Type 0
+NotesAreShort =
+    (k : Kernel) (bytes : List ℕ) → Sized k → Rules k → Within k → length bytes ≡ 16 → ((i : ℕ) → getD bytes i 0 < 256)
+    → called k bytes .answer .number ≡ 0
+    → length (noteFor k bytes) ≤ mostBytes k (nextOf k bytes)
+
+-- "From any state that keeps the state rules, after any list of calls (refused ones among them) with all notes kept: undoing the
+-- last k notes gives exactly the state before the last k accepted calls, for each k." Over lists of notes:
+unfoldable pub NotesLeadBack : Type 0
+NotesLeadBack =
+    (k : Kernel) (records : List (List ℕ)) (j : ℕ) → Sized k → Rules k → Within k → AreRecords records
+    → (let t = trail (record { kernel = k; kept = [] }) records in
+    backTimes j (t .kernel) (t .kept) ≡ stateAt j (t .kernel) (t .kept))
+
+-- and over the log's bytes: each of the undos answers 0, value 255 and the runner then, and gives the length of log before its call.
+unfoldable pub LogLeadsBack : Type 0
+LogLeadsBack =
+    (k : Kernel) (log : List ℕ) (used : ℕ) (records : List (List ℕ)) (j : ℕ)
+    → Sized k → Rules k → Within k → ((i : ℕ) → getD log i 0 < 256) → AreRecords records
+    → j ≤ length (run (begun k log used) records .earlier)
+    → (let r = run (begun k log used) records in
+    undoneTimes j (r .point .kernel) (r .log) (r .point .used)
+    ≡ logged (answer 0 255 (pointAt r j .kernel .runner)) (pointAt r j .kernel) (pointAt r j .used))

@@ -1,0 +1,174 @@
+-- Document 01's sample runs marked *, in one table: the calls, the answers, what then holds, and what holds once the last call is undone.
+use Prim.Native.Nat.{ℕ}
+use mathlib.Core.Bool.{Bool, true, false, _&&_}
+use mathlib.Core.List.{List, [], _∷_, _++_}
+use lib.Dec.{eqb}
+use lib.ListN.{replicate}
+use Rattle.base_bytes.specs.Bytes.{le}
+use Rattle.base_queue.specs.Lists.{isEmpty}
+use Rattle.spec_kernel.specs.declared.records.Wake.{Wake}
+use Rattle.spec_kernel.specs.declared.records.Kernel.{Kernel}
+use Rattle.spec_kernel.specs.Records.{fresh, semaphore, thread}
+use Rattle.spec_kernel.specs.Places.{semaphoreQueue}
+use Rattle.spec_calls.specs.declared.call.Call.{Call}
+use Rattle.spec_moves.specs.States.{withUptime}
+use Rattle.spec_answers.specs.declared.Answer.{Answer}
+use Rattle.spec_answers.specs.Steps.{answer, step}
+use Rattle.spec_answers.specs.Logs.{recorded, logAfter, undone}
+
+abbrev pub sameAnswer : Answer → Answer → Bool
+sameAnswer x y = eqb (x .number) (y .number) && (eqb (x .value) (y .value) && eqb (x .runner) (y .runner))
+
+-- each call gets its answer, and the last state passes the test
+abbrev pub runs : Kernel → List Call → List Answer → (Kernel → Bool) → Bool
+runs k [] [] then = then k
+runs k [] (x ∷ xs) then = false
+runs k (c ∷ cs) [] then = false
+runs k (c ∷ cs) (x ∷ xs) then = let r = runs (step k c .kernel) cs xs then in sameAnswer (step k c .answer) x && r
+
+abbrev pub call : ℕ → ℕ → ℕ → ℕ → ℕ → Call
+call kind a b c d = record { kind = kind; a = a; b = b; c = c; d = d; e = 0 }
+
+-- its sixteen bytes
+abbrev pub bytesOf : Call → List ℕ
+bytesOf c = c .kind ∷ c .a ∷ (le 2 (c .b) ++ (le 4 (c .c) ++ (le 4 (c .d) ++ le 4 (c .e))))
+
+-- a log without a note
+abbrev pub empty : List ℕ
+empty = replicate 128 0
+
+-- the last call is noted in an empty log and undone: the state that the undo gives
+abbrev pub undoneLast : Kernel → List Call → Kernel
+undoneLast k [] = k
+undoneLast k (c ∷ []) =
+    let r = recorded k (bytesOf c) empty 0 in
+    undone (r .kernel) (logAfter k (bytesOf c) empty 0) (r .used) .kernel
+undoneLast k (c ∷ d ∷ cs) = undoneLast (step k c .kernel) (d ∷ cs)
+
+pub record Sample : Type 0 where
+  pub start : Kernel
+  pub calls : List Call
+  pub answers : List Answer
+  pub then : Kernel → Bool
+  pub back : Kernel → Bool
+
+abbrev pub holds : Sample → Bool
+holds s = runs (s .start) (s .calls) (s .answers) (s .then) && s .back (undoneLast (s .start) (s .calls))
+
+abbrev pub all : List Sample → Bool
+all [] = true
+all (s ∷ l) = let r = all l in holds s && r
+
+-- nobody in particular is asked for
+abbrev pub anything : Kernel → Bool
+anything k = true
+
+abbrev pub timedOut : Wake → Bool
+timedOut Wake.None = false
+timedOut Wake.Met = false
+timedOut (Wake.TimedOut object) = true
+
+abbrev pub tick : Call
+tick = call 1 0 0 0 0
+
+abbrev pub create : ℕ → Call
+create priority = call 2 priority 0 0 0
+
+abbrev pub semaphoreOf : ℕ → ℕ → Call
+semaphoreOf count maximum = call 14 0 count maximum 0
+
+abbrev pub pend : ℕ → Call
+pend timeout = call 18 0 0 timeout 0
+
+abbrev pub samples : List Sample
+samples =
+    -- Fresh: yield gives 2; a tick gives 0 with runner 255.
+    record {
+      start = fresh;
+      calls = call 6 0 0 0 0 ∷ tick ∷ [];
+      answers = answer 2 255 255 ∷ answer 0 255 255 ∷ [];
+      then = anything;
+      back = anything;
+    }
+    -- Priority 30 is accepted, 0 and 31 give 5.
+    ∷ record {
+      start = fresh;
+      calls = create 30 ∷ create 0 ∷ create 31 ∷ [];
+      answers = answer 0 0 0 ∷ answer 5 255 0 ∷ answer 5 255 0 ∷ [];
+      then = anything;
+      back = anything;
+    }
+    -- Ids 0 (priority 5), 1 (3), 2 (5): thread 1 sleeps 2, thread 0 runs; it yields, 2 runs; two ticks later 1 runs.
+    ∷ record {
+      start = fresh;
+      calls = create 5 ∷ create 3 ∷ create 5 ∷ call 7 0 0 2 0 ∷ call 6 0 0 0 0 ∷ tick ∷ tick ∷ [];
+      answers =
+          answer 0 0 0
+          ∷ answer 0 1 1
+          ∷ answer 0 2 1
+          ∷ answer 0 255 0
+          ∷ answer 0 255 2
+          ∷ answer 0 255 2
+          ∷ answer 0 255 1
+          ∷ [];
+      then = anything;
+      back = anything;
+    }
+    -- Pend on count 0, timeout 1, then a tick: timed out, and the queue is empty.
+    ∷ record {
+      start = fresh;
+      calls = semaphoreOf 0 1 ∷ create 5 ∷ pend 1 ∷ tick ∷ [];
+      answers = answer 0 0 255 ∷ answer 0 0 0 ∷ answer 0 255 255 ∷ answer 0 255 0 ∷ [];
+      then = λ k. timedOut (thread k 0 .wake) && (isEmpty (semaphoreQueue k 0) && eqb (semaphore k 0 .count) 0);
+      back = anything;
+    }
+    -- A post then makes the count 1.
+    ∷ record {
+      start = fresh;
+      calls = semaphoreOf 0 1 ∷ create 5 ∷ pend 1 ∷ tick ∷ call 19 0 0 0 0 ∷ [];
+      answers = answer 0 0 255 ∷ answer 0 0 0 ∷ answer 0 255 255 ∷ answer 0 255 0 ∷ answer 0 255 0 ∷ [];
+      then = λ k. eqb (semaphore k 0 .count) 1;
+      back = anything;
+    }
+    -- Count 1, maximum 1: a post is accepted and the count stays 1.
+    ∷ record {
+      start = fresh;
+      calls = semaphoreOf 1 1 ∷ create 5 ∷ call 19 0 0 0 0 ∷ [];
+      answers = answer 0 0 255 ∷ answer 0 0 0 ∷ answer 0 255 0 ∷ [];
+      then = λ k. eqb (semaphore k 0 .count) 1;
+      back = anything;
+    }
+    -- Pend on count 0 inside an unscheduled region gives 6; on count 1 it passes.
+    ∷ record {
+      start = fresh;
+      calls = semaphoreOf 0 1 ∷ create 5 ∷ call 8 0 0 0 0 ∷ pend 0 ∷ call 19 0 0 0 0 ∷ pend 0 ∷ [];
+      answers =
+          answer 0 0 255 ∷ answer 0 0 0 ∷ answer 0 255 0 ∷ answer 6 255 0 ∷ answer 0 255 0 ∷ answer 0 255 0 ∷ [];
+      then = λ k. eqb (semaphore k 0 .count) 0;
+      back = anything;
+    }
+    -- Tick in a critical region: 3.
+    ∷ record {
+      start = fresh;
+      calls = create 5 ∷ call 11 0 0 0 0 ∷ tick ∷ [];
+      answers = answer 0 0 0 ∷ answer 0 255 0 ∷ answer 3 255 0 ∷ [];
+      then = λ k. eqb (k .uptime) 0;
+      back = anything;
+    }
+    -- In an unscheduled one: accepted.
+    ∷ record {
+      start = fresh;
+      calls = create 5 ∷ call 8 0 0 0 0 ∷ tick ∷ [];
+      answers = answer 0 0 0 ∷ answer 0 255 0 ∷ answer 0 255 0 ∷ [];
+      then = λ k. eqb (k .uptime) 1;
+      back = anything;
+    }
+    -- Uptime 4,294,967,295, then a tick: 0; undo brings it back.
+    ∷ record {
+      start = withUptime 4294967295 fresh;
+      calls = tick ∷ [];
+      answers = answer 0 255 255 ∷ [];
+      then = λ k. eqb (k .uptime) 0;
+      back = λ k. eqb (k .uptime) 4294967295;
+    }
+    ∷ []

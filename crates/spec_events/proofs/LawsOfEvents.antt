@@ -1,0 +1,297 @@
+-- Events: what working them out does, and set, clear, load and pend.
+use mathlib.Core.Path.{_≡_, refl, sym, _∙_}
+use mathlib.Core.Bool.{Bool, true, false, cond, false≢true}
+use mathlib.Core.List.{List, [], _∷_, _++_}
+use Prim.Native.Nat.{ℕ, zero, suc, _+_, _≤_, _<_}
+use native.Mathlib.Omega.{arith}
+use lib.Dec.{eqb, ltb}
+use lib.ListN.{length, getD, set}
+use lib.Seq.{getD-set-same, getD-set-other}
+use borrow.Author.Tests.{eqb-true, eqb-false, ltb-true, ltb-false, lt-ltb}
+use borrow.Table.Steps.{cases}
+use Rattle.base_queue.proofs.Lists.{count-append}
+use Rattle.base_bits.specs.Words.{bitAt, withBit, withoutBit}
+use Rattle.base_bits.proofs.Laws.{bit-same, bit-gone, bit-other, bit-other-without}
+use Rattle.base_queue.specs.Lists.{keep, count}
+use Rattle.base_queue.proofs.Counts.{keep-all}
+use Rattle.spec_kernel.specs.declared.records.Condition.the-variants.{ForEvent}
+use Rattle.spec_kernel.specs.declared.records.Wake.{Wake}
+use Rattle.spec_kernel.specs.declared.records.Thread.{Thread}
+use Rattle.spec_kernel.specs.declared.records.Event.{Event}
+use Rattle.spec_kernel.specs.declared.records.Kernel.{Kernel}
+use Rattle.spec_moves.specs.declared.parts.Threads.{Threads}
+use Rattle.spec_kernel.specs.Records.{thread, event, noEvent}
+use Rattle.spec_kernel.specs.Places.{eventHome, line, readyList, semaphoreQueue, eventQueue, timeQueue}
+use Rattle.spec_kernel.specs.Truth.{isTrue}
+use Rattle.spec_moves.specs.Moves.{recordIn}
+use Rattle.spec_moves.specs.Standing.{threadsOf, lineIn, Standing}
+use Rattle.spec_calls.specs.declared.call.Call.{Call}
+use Rattle.spec_moves.specs.States.{withEvents, each}
+use Rattle.spec_events.specs.Events.{wakeIn, wokenIn, workOut, workOutFrom, workedOut, loadEvent, pendEvent, setBit, clearBit}
+use Rattle.spec_kernel.specs.WordsOfLaws.{Runnable, readied, SameMessages, SameScheduler, OnlyThreads}
+use Rattle.spec_threads.proofs.LawsOfLists.{withoutAll, keep-none}
+use Rattle.spec_threads.proofs.LawsOfHomes.{line-home, line-absent, line-once, line-stopped}
+use Rattle.spec_threads.proofs.LawsOfWaking.{Called, AllWoken, each-woken}
+use Rattle.spec_threads.proofs.LawsOfBlocking.{Blocked, block-blocks, block-only}
+
+-- the waiters of those of n events from i on that are TRUE: in id order, and of each in queue order
+unfoldable pub waitersFrom : (ℕ → Bool) → Threads → ℕ → ℕ → List ℕ
+waitersFrom met p i zero = []
+waitersFrom met p i (suc n) = cond (met i) (lineIn p (eventHome i)) [] ++ waitersFrom met p (suc i) n
+
+-- event i is TRUE
+abbrev pub isMet : Kernel → ℕ → Bool
+isMet k i = isTrue (k .bits) (event k i)
+
+-- who wakes between k and k′: the waiters of k of the events that are TRUE in k′
+abbrev pub waiters : Kernel → Kernel → List ℕ
+waiters k k′ = waitersFrom (isMet k′) (threadsOf k) 0 8
+
+-- The events of k′ are worked out: "in id order, and each TRUE one wakes all its waiters in queue order".
+pub record WorkedOut (k k′ : Kernel) : Type 0 where
+  -- nobody waits for a TRUE event
+  pub nobody : (i : ℕ) → i < 8 → isMet k′ i ≡ true → eventQueue k′ i ≡ []
+  -- the queues of the other events, and of semaphores, are as they were
+  pub events : (i : ℕ) → i < 8 → isMet k′ i ≡ false → eventQueue k′ i ≡ eventQueue k i
+  pub semaphores : (i : ℕ) → i < 16 → semaphoreQueue k′ i ≡ semaphoreQueue k i
+  -- each ready list gets the waiters of its priority, in id order of their events, and of each event in queue order
+  pub lists : (p : ℕ) → p < 256 → readyList k′ p ≡ readyList k p ++ keep (λ t. eqb (thread k t .priority) p) (waiters k k′)
+  -- they leave the time queue, where the others keep their order
+  pub time : timeQueue k′ ≡ withoutAll (waiters k k′) (timeQueue k)
+  -- who stood in the queue of a TRUE event is awake, as met
+  pub woken : (t i : ℕ) → i < 8 → isMet k′ i ≡ true → 0 < count t (eventQueue k i) → thread k′ t ≡ readied Wake.Met (thread k t .reply) (thread k t)
+  -- and nobody else's record changes
+  pub others : (t : ℕ) → ((i : ℕ) → i < 8 → isMet k′ i ≡ true → count t (eventQueue k i) ≡ 0) → thread k′ t ≡ thread k t
+  -- nothing else but events and bits does
+  pub counts : k′ .semaphores ≡ k .semaphores
+  pub messages : SameMessages k k′
+  pub scheduler : SameScheduler k k′
+
+-- every priority is a byte
+abbrev pub Bytes : Threads → Type 0
+Bytes p = (t : ℕ) → recordIn p t .priority < 256
+
+-- those of a, then those of b
+each-append : (f : ℕ → Threads → Threads) (a b : List ℕ) (p : Threads) → each f (a ++ b) p ≡ each f b (each f a p)
+each-append f [] b p = refl
+each-append f (x ∷ a) b p = each-append f a b (f x p)
+
+-- each wakes as met
+abbrev asMet : Thread → Wake
+asMet r = Wake.Met
+
+-- ---- who the waiters are
+-- thread t waits for a TRUE one of n events from i on
+record Waits (met : ℕ → Bool) (p : Threads) (i n t : ℕ) : Type 0 where
+  event : ℕ
+  from : i ≤ event
+  to : event < i + n
+  holds : met event ≡ true
+  there : 0 < count t (lineIn p (eventHome event))
+
+module _ (met : ℕ → Bool) {p : Threads} (S : Standing p) (t : ℕ) where
+  -- each waits for a TRUE one
+  waiter-waits : (i n : ℕ) → 0 < count t (waitersFrom met p i n) → Waits met p i n t
+  unfolding waitersFrom
+  waiter-waits i zero c = absurd (omega arith)
+  waiter-waits i (suc n) c =
+      let l = cond (met i) (lineIn p (eventHome i)) [] in
+      let d = rw count-append at c in
+      cases (ltb 0 (count t l))
+      (λ e. cases (met i)
+      (λ m. record { event = i; from = omega arith; to = omega arith; holds = m; there = ltb-true 0 (count t (lineIn p (eventHome i))) (rw m at e) })
+      (λ m. absurd (false≢true (rw m at e))))
+      (λ e. let W = waiter-waits (suc i) n (omega (arith, ltb-false)) in
+      record { event = W .event; from = omega (arith, W .from); to = omega (arith, W .to); holds = W .holds; there = W .there })
+
+  -- who waits for one is among them
+  waits-waiter : (i n j : ℕ) → i ≤ j → j < i + n → met j ≡ true → 0 < count t (lineIn p (eventHome j)) → 0 < count t (waitersFrom met p i n)
+  unfolding waitersFrom
+  waits-waiter i zero j a b m c = absurd (omega arith)
+  waits-waiter i (suc n) j a b m c =
+      rw count-append
+      (cases (eqb i j)
+      (λ e. let z = eqb-true i j e in rw (z, m) (omega arith))
+      (λ e. let r = waits-waiter (suc i) n j (omega (arith, eqb-false)) (omega arith) m c in omega arith))
+
+  -- once, as who waits has one home
+  waiter-once : (i n : ℕ) → count t (waitersFrom met p i n) ≤ 1
+  unfolding waitersFrom
+  waiter-once i zero = omega arith
+  waiter-once i (suc n) =
+      let r = waiter-once (suc i) n in
+      let one = line-once S t (eventHome i) in
+      rw count-append
+      (cases (met i)
+      (λ m. rw m
+      (cases (ltb 0 (count t (waitersFrom met p (suc i) n)))
+      (λ e. let W = waiter-waits (suc i) n (ltb-true 0 _ e) in
+      let z = line-absent S t (eventHome i) (λ z. omega (arith, W .from, line-home S t (eventHome (W .event)) (W .there))) in
+      omega arith)
+      (λ e. omega (arith, ltb-false))))
+      (λ m. rw m (omega arith)))
+
+-- ---- one event after the other
+module _ (events : List Event) (bits : ℕ) where
+  abbrev met : ℕ → Bool
+  met i = isTrue bits (getD events i noEvent)
+
+  module _ {p : Threads} (S : Standing p) (B : Bytes p) where
+    -- the waiters of one event are each named once, and wait
+    line-called : (i : ℕ) → Called p (lineIn p (eventHome i))
+    line-called i t c = (omega (arith, line-once S t (eventHome i)), line-stopped S t (B t) (omega arith) c)
+
+    waiters-called : (i n : ℕ) → Called p (waitersFrom met p i n)
+    waiters-called i n t c =
+        let W = waiter-waits met S t i n c in
+        (omega (arith, waiter-once met S t i n), line-stopped S t (B t) (omega arith) (W .there))
+
+    -- once one event is worked out all stand in place, and the priorities and the later events' queues are as they were
+    line-stands : (i : ℕ) → Standing (wokenIn (eventHome i) p)
+    unfolding wokenIn wakeIn
+    line-stands i = each-woken asMet (lineIn p (eventHome i)) S (line-called i) .standing
+
+    line-bytes : (i : ℕ) → Bytes (wokenIn (eventHome i) p)
+    unfolding wokenIn wakeIn
+    line-bytes i t =
+        let A = each-woken asMet (lineIn p (eventHome i)) S (line-called i) in
+        cases (ltb 0 (count t (lineIn p (eventHome i))))
+        (λ e. rw (A .woken t (ltb-true 0 _ e)) (B t))
+        (λ e. rw (A .others t (omega (arith, ltb-false))) (B t))
+
+    line-later : (i j : ℕ) → i < j → lineIn (wokenIn (eventHome i) p) (eventHome j) ≡ lineIn p (eventHome j)
+    unfolding wokenIn wakeIn
+    line-later i j b =
+        let A = each-woken asMet (lineIn p (eventHome i)) S (line-called i) in
+        A .queues (eventHome j) (omega arith)
+        ∙ keep-all (lineIn p (eventHome j)) (λ t c. rw (line-absent S t (eventHome i) (λ z. omega (arith, line-home S t (eventHome j) c))))
+
+    waiters-later : (i j n : ℕ) → i < j → waitersFrom met (wokenIn (eventHome i) p) j n ≡ waitersFrom met p j n
+    unfolding waitersFrom
+    waiters-later i j zero b = refl
+    waiters-later i j (suc n) b = rw (line-later i j b, waiters-later i (suc j) n (omega arith))
+
+  -- so the events wake their waiters, one after the other
+  outs-wake : (i n : ℕ) {p : Threads} → Standing p → Bytes p → workOutFrom events bits i n p ≡ each wakeIn (waitersFrom met p i n) p
+  unfolding workOutFrom workOut wokenIn waitersFrom
+  outs-wake i zero S B = refl
+  outs-wake i (suc n) {p} S B =
+      cases (met i)
+      (λ m. rw m
+      (outs-wake (suc i) n (line-stands S B i) (line-bytes S B i)
+      ∙ rw (waiters-later S B i (suc i) n (omega arith), each-append)))
+      (λ m. rw m (outs-wake (suc i) n S B))
+
+  module _ (k : Kernel) (S : Standing (threadsOf k)) (B : Bytes (threadsOf k)) where
+    abbrev after : Kernel
+    after = workedOut (withEvents events bits k)
+
+    abbrev called : List ℕ
+    called = waitersFrom met (threadsOf k) 0 8
+
+    all-woken : AllWoken asMet called (threadsOf k) (threadsOf after)
+    unfolding workedOut wakeIn
+    all-woken = rw (outs-wake 0 8 S B) (each-woken asMet called S (waiters-called S B 0 8))
+
+    -- who waits for no TRUE event is not called
+    uncalled : (t : ℕ) → ((i : ℕ) → i < 8 → met i ≡ true → count t (eventQueue k i) ≡ 0) → count t called ≡ 0
+    uncalled t h =
+        cases (ltb 0 (count t called))
+        (λ e. let W = waiter-waits met S t 0 8 (ltb-true 0 _ e) in absurd (omega (arith, h (W .event) (omega (arith, W .to)) (W .holds), W .there)))
+        (λ e. omega (arith, ltb-false))
+
+    -- a queue that is no TRUE event's is as it was
+    queue-stays : (h : ℕ) → 256 ≤ h → ((i : ℕ) → i < 8 → met i ≡ true → h ≡ eventHome i → ⊥) → line after h ≡ line k h
+    queue-stays h b ne =
+        all-woken .queues h b
+        ∙ keep-all (line k h) (λ t c. rw (uncalled t (λ i s m. line-absent S t (eventHome i) (λ z. ne i s m (sym (line-home S t h c) ∙ z)))))
+
+    works-out : WorkedOut k after
+    unfolding workedOut
+    works-out = record {
+      nobody = λ i b m.
+          all-woken .queues (eventHome i) (omega arith)
+          ∙ keep-none (eventQueue k i) (λ t c. rw (lt-ltb 0 (count t called) (waits-waiter met S t 0 8 i (omega arith) (omega arith) m c)));
+      events = λ i b m. queue-stays (eventHome i) (omega arith) (λ j s n z. let e : i ≡ j = omega arith in false≢true (sym m ∙ rw e n));
+      semaphores = λ i b. queue-stays (256 + i) (omega arith) (λ j s n z. omega arith);
+      lists = all-woken .lists;
+      time = all-woken .time;
+      woken = λ t i b m c. all-woken .woken t (waits-waiter met S t 0 8 i (omega arith) (omega arith) m c);
+      others = λ t h. all-woken .others t (uncalled t h);
+      counts = refl;
+      messages = record { records = refl; posted = refl };
+      scheduler = record { uptime = refl; unscheduled = refl; critical = refl; runner = refl };
+    }
+
+-- "events are worked out in id order, and each TRUE one wakes all its waiters in queue order"
+pub worked-out : (k : Kernel) → Standing (threadsOf k) → Bytes (threadsOf k) → WorkedOut k (workedOut k)
+worked-out k S B = works-out (k .events) (k .bits) k S B
+
+-- ---- the calls
+module _ (k : Kernel) (c : Call) where
+  -- set: bit a is set, and no other bit or event changes; clear likewise
+  pub set-sets : c .a < 32 → bitAt (setBit k c .bits) (c .a) ≡ true
+  unfolding setBit workedOut
+  set-sets b = bit-same (k .bits) (c .a) b
+
+  pub set-others : (i : ℕ) → (c .a ≡ i → ⊥) → bitAt (setBit k c .bits) i ≡ bitAt (k .bits) i
+  unfolding setBit workedOut
+  set-others i ne = bit-other (k .bits) (c .a) i ne
+
+  pub set-events : setBit k c .events ≡ k .events
+  unfolding setBit workedOut
+  set-events = refl
+
+  pub clear-clears : bitAt (clearBit k c .bits) (c .a) ≡ false
+  unfolding clearBit workedOut
+  clear-clears = bit-gone (k .bits) (c .a)
+
+  pub clear-others : (i : ℕ) → (c .a ≡ i → ⊥) → bitAt (clearBit k c .bits) i ≡ bitAt (k .bits) i
+  unfolding clearBit workedOut
+  clear-others i ne = bit-other-without (k .bits) (c .a) i ne
+
+  pub clear-events : clearBit k c .events ≡ k .events
+  unfolding clearBit workedOut
+  clear-events = refl
+
+  -- load: event a has the mode, mask and values of the call, and no other event or bit changes
+  pub load-loads : c .a < length (k .events) → event (loadEvent k c) (c .a) ≡ record { any = eqb (c .b) 1; mask = c .c; values = c .d }
+  unfolding loadEvent workedOut
+  load-loads b = getD-set-same (k .events) (c .a) _ noEvent b
+
+  pub load-others : (i : ℕ) → (i ≡ c .a → ⊥) → event (loadEvent k c) i ≡ event k i
+  unfolding loadEvent workedOut
+  load-others i ne = getD-set-other (k .events) (c .a) i _ noEvent ne
+
+  pub load-bits : loadEvent k c .bits ≡ k .bits
+  unfolding loadEvent workedOut
+  load-bits = refl
+
+  -- "After each accepted set, clear or load, at once, events are worked out"
+  module _ (S : Standing (threadsOf k)) (B : Bytes (threadsOf k)) where
+    pub set-works-out : WorkedOut k (setBit k c)
+    unfolding setBit
+    set-works-out = works-out (k .events) (withBit (k .bits) (c .a)) k S B
+
+    pub clear-works-out : WorkedOut k (clearBit k c)
+    unfolding clearBit
+    clear-works-out = works-out (k .events) (withoutBit (k .bits) (c .a)) k S B
+
+    pub load-works-out : WorkedOut k (loadEvent k c)
+    unfolding loadEvent
+    load-works-out = works-out (set (k .events) (c .a) _) (k .bits) k S B
+
+  -- "Pend passes on TRUE"; else the caller waits behind its equals
+  pub pend-event-passes : isMet k (c .a) ≡ true → pendEvent k c ≡ k
+  unfolding pendEvent
+  pend-event-passes m = rw m
+
+  module _ (m : isMet k (c .a) ≡ false) where
+    pub pend-event-blocks : Standing (threadsOf k) → Runnable (thread k (k .runner))
+        → Blocked (ForEvent (c .a)) (c .c) (eventHome (c .a)) (k .runner) k (pendEvent k c)
+    unfolding pendEvent
+    pend-event-blocks S R = rw m (block-blocks k S R (ForEvent (c .a)) (c .c) refl (omega arith))
+
+    pub pend-event-leaves : OnlyThreads k (pendEvent k c)
+    unfolding pendEvent
+    pend-event-leaves = rw m (block-only (ForEvent (c .a)) (c .c) k)

@@ -1,0 +1,56 @@
+-- Events and event bits: load, pend, set and clear.
+use Prim.Native.Nat.{ℕ, zero, suc}
+use mathlib.Core.Bool.{cond}
+use mathlib.Core.List.{List}
+use lib.Dec.{eqb}
+use lib.ListN.{getD}
+use Rattle.base_bits.specs.Words.{withBit, withoutBit}
+use Rattle.spec_kernel.specs.declared.records.Condition.the-variants.{ForEvent}
+use Rattle.spec_kernel.specs.declared.records.Wake.{Wake}
+use Rattle.spec_kernel.specs.declared.records.Event.{Event}
+use Rattle.spec_kernel.specs.declared.records.Kernel.{Kernel}
+use Rattle.spec_moves.specs.declared.parts.Threads.{Threads}
+use Rattle.spec_kernel.specs.Records.{event, noEvent}
+use Rattle.spec_kernel.specs.Places.{eventHome}
+use Rattle.spec_kernel.specs.Truth.{isTrue}
+use Rattle.spec_moves.specs.Moves.{relocate, recordIn}
+use Rattle.spec_moves.specs.Standing.{threadsOf, lineIn}
+use Rattle.spec_calls.specs.declared.call.Call.{Call}
+use Rattle.spec_moves.specs.States.{withThreads, withEvent, withBits, each}
+use Rattle.spec_threads.specs.Threads.{awake, block}
+
+-- thread t wakes as met
+unfoldable pub wakeIn : ℕ → Threads → Threads
+wakeIn t p = relocate t (awake Wake.Met (recordIn p t .reply) (recordIn p t)) p
+
+-- all that stand in a queue wake, in queue order
+unfoldable pub wokenIn : ℕ → Threads → Threads
+wokenIn home p = each wakeIn (lineIn p home) p
+
+-- "each TRUE one wakes all its waiters in queue order"
+unfoldable pub workOut : List Event → ℕ → ℕ → Threads → Threads
+workOut events bits i p = cond (isTrue bits (getD events i noEvent)) (wokenIn (eventHome i) p) p
+
+-- n events from i on, in id order
+unfoldable pub workOutFrom : List Event → ℕ → ℕ → ℕ → Threads → Threads
+workOutFrom events bits i zero p = p
+workOutFrom events bits i (suc n) p = workOutFrom events bits (suc i) n (workOut events bits i p)
+
+-- "After each accepted set, clear or load, at once, events are worked out in id order."
+unfoldable pub workedOut : Kernel → Kernel
+workedOut k = withThreads (workOutFrom (k .events) (k .bits) 0 8 (threadsOf k)) k
+
+-- kind 20: load event a, mode b (0 all, 1 any), mask c, values d
+unfoldable pub loadEvent : Kernel → Call → Kernel
+loadEvent k c = workedOut (withEvent (c .a) (record { any = eqb (c .b) 1; mask = c .c; values = c .d }) k)
+
+-- kind 21: "Pend passes on TRUE"; else it blocks
+unfoldable pub pendEvent : Kernel → Call → Kernel
+pendEvent k c = cond (isTrue (k .bits) (event k (c .a))) k (block (ForEvent (c .a)) (c .c) k)
+
+-- kinds 22 and 29, 23 and 30: set and clear event bit a
+unfoldable pub setBit : Kernel → Call → Kernel
+setBit k c = workedOut (withBits (withBit (k .bits) (c .a)) k)
+
+unfoldable pub clearBit : Kernel → Call → Kernel
+clearBit k c = workedOut (withBits (withoutBit (k .bits) (c .a)) k)

@@ -1,0 +1,34 @@
+-- Which message a pend takes.
+use Prim.Native.Nat.{ℕ, zero, suc}
+use mathlib.Core.Bool.{Bool, cond, _&&_}
+use mathlib.Core.List.{List, [], _++_}
+use lib.Dec.{eqb}
+use lib.ListN.{getD}
+use Rattle.base_queue.specs.declared.Queue.{Queue}
+use Rattle.base_queue.specs.Lists.{keep, firstOf}
+use Rattle.base_queue.specs.Queues.{items}
+use Rattle.spec_kernel.specs.declared.records.Message.{Message}
+use Rattle.spec_kernel.specs.declared.records.Kernel.{Kernel}
+use Rattle.spec_kernel.specs.Records.{noMessage}
+use Rattle.spec_kernel.specs.Conditions.{masks}
+use Rattle.spec_kernel.specs.Places.{channel}
+
+-- the masked ones of thread t's n channels from c on, one behind the other
+unfoldable pub maskedFrom : Kernel → ℕ → ℕ → ℕ → ℕ → List ℕ
+maskedFrom k t mask c zero = []
+maskedFrom k t mask c (suc n) = cond (masks mask c) (channel k t c) [] ++ maskedFrom k t mask (suc c) n
+
+-- "Pend takes the oldest of the lowest masked channel that has one", or 255 for none
+unfoldable pub lowestMasked : Kernel → ℕ → ℕ → ℕ
+lowestMasked k t mask = firstOf (maskedFrom k t mask 1 15)
+
+abbrev pub isFor : ℕ → ℕ → Message → Bool
+isFor t mask r = eqb (r .owner) t && masks mask (r .channel)
+
+-- the first of the posted messages that thread t may take; in a state that keeps the rules this is the one above
+unfoldable pub nextOf : List Message → Queue → ℕ → ℕ → ℕ
+nextOf messages posted t mask = firstOf (keep (λ m. isFor t mask (getD messages m noMessage)) (items posted))
+
+-- the running thread's
+abbrev pub nextMessage : Kernel → ℕ → ℕ
+nextMessage k mask = nextOf (k .messages) (k .posted) (k .runner) mask

@@ -1,0 +1,64 @@
+-- What a thread's condition says.
+use Prim.Native.Nat.{ℕ, _-_}
+use mathlib.Core.Bool.{Bool, true, false, _&&_}
+use lib.Dec.{eqb, ltb}
+use Rattle.base_bits.specs.Words.{bitAt}
+use Rattle.spec_kernel.specs.declared.records.Condition.{Condition}
+use Rattle.spec_kernel.specs.declared.records.Condition.the-variants.{Ready, Asleep, ForSemaphore, ForEvent, ForMessage}
+use Rattle.spec_kernel.specs.declared.records.Thread.{Thread}
+
+abbrev pub readyFor : Condition → Bool
+readyFor Ready = true
+readyFor Asleep = false
+readyFor (ForSemaphore i) = false
+readyFor (ForEvent i) = false
+readyFor (ForMessage mask) = false
+
+-- a live thread that is ready
+abbrev pub isReady : Thread → Bool
+isReady r = r .live && readyFor (r .condition)
+
+abbrev pub onSemaphore : ℕ → Condition → Bool
+onSemaphore i Ready = false
+onSemaphore i Asleep = false
+onSemaphore i (ForSemaphore j) = eqb j i
+onSemaphore i (ForEvent j) = false
+onSemaphore i (ForMessage mask) = false
+
+-- a live thread that waits for semaphore i
+abbrev pub waitsForSemaphore : ℕ → Thread → Bool
+waitsForSemaphore i r = r .live && onSemaphore i (r .condition)
+
+abbrev pub onEvent : ℕ → Condition → Bool
+onEvent i Ready = false
+onEvent i Asleep = false
+onEvent i (ForSemaphore j) = false
+onEvent i (ForEvent j) = eqb j i
+onEvent i (ForMessage mask) = false
+
+-- a live thread that waits for event i
+abbrev pub waitsForEvent : ℕ → Thread → Bool
+waitsForEvent i r = r .live && onEvent i (r .condition)
+
+abbrev pub timedFor : Condition → ℕ → Bool
+timedFor Ready ticks = false
+timedFor Asleep ticks = true
+timedFor (ForSemaphore i) ticks = ltb 0 ticks
+timedFor (ForEvent i) ticks = ltb 0 ticks
+timedFor (ForMessage mask) ticks = ltb 0 ticks
+
+-- "a sleeping thread, or a waiting one with timeout above 0"
+abbrev pub isTimed : Thread → Bool
+isTimed r = r .live && timedFor (r .condition) (r .ticks)
+
+-- "mask bit 0 is channel 1"
+abbrev pub masks : ℕ → ℕ → Bool
+masks mask c = ltb 0 c && bitAt mask (c - 1)
+
+-- a thread of this condition waits for messages on channel c
+abbrev pub awaits : Condition → ℕ → Bool
+awaits Ready c = false
+awaits Asleep c = false
+awaits (ForSemaphore i) c = false
+awaits (ForEvent i) c = false
+awaits (ForMessage mask) c = masks mask c

@@ -1,0 +1,20 @@
+-- "A create takes the lowest free id."
+use Prim.Native.Nat.{ℕ, suc}
+use mathlib.Core.Bool.{Bool, cond}
+use mathlib.Core.List.{List, [], _∷_}
+use Rattle.spec_kernel.specs.declared.records.Kernel.{Kernel}
+
+module _ {A : Type 0} where
+  -- the first place, counted from k, whose record isn't live; 255 where every one is
+  abbrev pub lowestFree : (A → Bool) → ℕ → List A → ℕ
+  lowestFree live k [] = 255
+  lowestFree live k (r ∷ l) = let n = lowestFree live (suc k) l in cond (live r) n k
+
+abbrev pub freeThread : Kernel → ℕ
+freeThread k = lowestFree (λ r. r .live) 0 (k .threads)
+
+abbrev pub freeSemaphore : Kernel → ℕ
+freeSemaphore k = lowestFree (λ r. r .live) 0 (k .semaphores)
+
+abbrev pub freeMessage : Kernel → ℕ
+freeMessage k = lowestFree (λ r. r .live) 0 (k .messages)

@@ -1,0 +1,80 @@
+-- Where threads and messages stand: every list, queue and channel of document 01 by its own name.
+-- They are stored in three tables. `places` has the ready lists by priority, then the semaphores' queues, then the events';
+-- `posted` has the channels by owner, then by number; `time` is the time queue. A list is the run of a table that has its home.
+use Prim.Native.Nat.{ℕ, _+_, _*_}
+use mathlib.Core.Bool.{Bool, true, false, not, cond, _&&_}
+use mathlib.Core.List.{List}
+use lib.Dec.{eqb, ltb}
+use Rattle.base_queue.specs.Lists.{keep}
+use Rattle.base_queue.specs.Queues.{items}
+use Rattle.spec_kernel.specs.declared.records.Condition.{Condition}
+use Rattle.spec_kernel.specs.declared.records.Condition.the-variants.{Ready, Asleep, ForSemaphore, ForEvent, ForMessage}
+use Rattle.spec_kernel.specs.declared.records.Thread.{Thread}
+use Rattle.spec_kernel.specs.declared.records.Message.{Message}
+use Rattle.spec_kernel.specs.declared.records.Kernel.{Kernel}
+use Rattle.spec_kernel.specs.Records.{thread, message}
+
+-- the homes: a priority's ready list, a semaphore's queue, an event's queue, and none
+abbrev pub readyHome : ℕ → ℕ
+readyHome p = p
+
+abbrev pub semaphoreHome : ℕ → ℕ
+semaphoreHome i = 256 + i
+
+abbrev pub eventHome : ℕ → ℕ
+eventHome i = 512 + i
+
+abbrev pub nowhere : ℕ
+nowhere = 1024
+
+abbrev pub homeFor : Condition → ℕ → ℕ
+homeFor Ready priority = readyHome priority
+homeFor Asleep priority = nowhere
+homeFor (ForSemaphore i) priority = semaphoreHome i
+homeFor (ForEvent i) priority = eventHome i
+homeFor (ForMessage mask) priority = nowhere
+
+-- "Ready: one place in its priority's list. Waiting for a semaphore or event: one place in that live object's queue."
+unfoldable pub homeOf : Thread → ℕ
+homeOf r = cond (r .live) (homeFor (r .condition) (r .priority)) nowhere
+
+abbrev pub hasHome : Thread → Bool
+hasHome r = not (eqb (homeOf r) nowhere)
+
+-- the order of `places`: by home, and within a queue by priority
+unfoldable pub rankOf : Thread → ℕ
+rankOf r = homeOf r * 256 + r .priority
+
+-- the threads whose home is h, in their order
+abbrev pub line : Kernel → ℕ → List ℕ
+line k h = keep (λ t. eqb (homeOf (thread k t)) h) (items (k .places))
+
+-- a priority's ready list
+abbrev pub readyList : Kernel → ℕ → List ℕ
+readyList k priority = line k (readyHome priority)
+
+-- a semaphore's queue, and an event's
+abbrev pub semaphoreQueue : Kernel → ℕ → List ℕ
+semaphoreQueue k i = line k (semaphoreHome i)
+
+abbrev pub eventQueue : Kernel → ℕ → List ℕ
+eventQueue k i = line k (eventHome i)
+
+-- the time queue
+abbrev pub timeQueue : Kernel → List ℕ
+timeQueue k = items (k .time)
+
+-- a message that stands in a channel of its owner; else the owner holds it
+abbrev pub isQueued : Message → Bool
+isQueued r = r .live && ltb 0 (r .channel)
+
+-- the order of `posted`: by owner, then by channel
+unfoldable pub streamOf : Message → ℕ
+streamOf r = r .owner * 256 + r .channel
+
+abbrev pub onChannel : ℕ → ℕ → Message → Bool
+onChannel t c r = eqb (r .owner) t && eqb (r .channel) c
+
+-- a thread's channel, oldest first
+abbrev pub channel : Kernel → ℕ → ℕ → List ℕ
+channel k t c = keep (λ m. onChannel t c (message k m)) (items (k .posted))

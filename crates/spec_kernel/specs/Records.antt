@@ -1,0 +1,63 @@
+-- The records as document 01 numbers them, and the fresh state.
+use Prim.Native.Nat.{ℕ}
+use mathlib.Core.Bool.{true, false}
+use mathlib.Core.List.{[]}
+use lib.ListN.{getD, replicate}
+use Rattle.base_queue.specs.Queues.{pack}
+use Rattle.spec_kernel.specs.declared.records.Condition.{Condition}
+use Rattle.spec_kernel.specs.declared.records.Condition.the-variants.{Ready}
+use Rattle.spec_kernel.specs.declared.records.Wake.{Wake}
+use Rattle.spec_kernel.specs.declared.records.Thread.{Thread}
+use Rattle.spec_kernel.specs.declared.records.Semaphore.{Semaphore}
+use Rattle.spec_kernel.specs.declared.records.Event.{Event}
+use Rattle.spec_kernel.specs.declared.records.Message.{Message}
+use Rattle.spec_kernel.specs.declared.records.Kernel.{Kernel}
+
+-- "All fields of a record that isn't live are 0 (ready and none count as 0)."
+abbrev pub noThread : Thread
+noThread = record { live = false; priority = 0; first = 0; condition = Ready; ticks = 0; wake = Wake.None; reply = 0 }
+
+abbrev pub noSemaphore : Semaphore
+noSemaphore = record { live = false; count = 0; maximum = 0; ticks = 0; period = 0 }
+
+abbrev pub noMessage : Message
+noMessage = record { live = false; owner = 0; sender = 0; kind = 0; size = 0; address = 0; channel = 0 }
+
+-- an event past the last: never read
+abbrev pub noEvent : Event
+noEvent = record { any = false; mask = 0; values = 0 }
+
+-- the record of an id; that of an id too large isn't live
+abbrev pub thread : Kernel → ℕ → Thread
+thread k t = getD (k .threads) t noThread
+
+abbrev pub semaphore : Kernel → ℕ → Semaphore
+semaphore k i = getD (k .semaphores) i noSemaphore
+
+abbrev pub event : Kernel → ℕ → Event
+event k i = getD (k .events) i noEvent
+
+abbrev pub message : Kernel → ℕ → Message
+message k m = getD (k .messages) m noMessage
+
+-- "each event in mode any with mask and values 0"
+abbrev pub freshEvent : Event
+freshEvent = record { any = true; mask = 0; values = 0 }
+
+-- "The fresh state has no thread, semaphore or message, uptime 0, levels 0, all bits clear, and each event in mode any with mask and values 0."
+unfoldable pub fresh : Kernel
+fresh =
+    record {
+      threads = replicate 32 noThread;
+      semaphores = replicate 16 noSemaphore;
+      events = replicate 8 freshEvent;
+      messages = replicate 64 noMessage;
+      places = pack [];
+      time = pack [];
+      posted = pack [];
+      bits = 0;
+      uptime = 0;
+      unscheduled = 0;
+      critical = 0;
+      runner = 255;
+    }

@@ -1,0 +1,2 @@
+pub mod LawsOfMaking
+pub mod LawsOfMessages

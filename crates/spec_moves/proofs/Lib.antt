@@ -1,0 +1,4 @@
+pub mod Joins
+pub mod Rejoined
+pub mod Posts
+pub mod Threads

@@ -1,0 +1,3 @@
+pub mod Moves
+pub mod Standing
+pub mod States

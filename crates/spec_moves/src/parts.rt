@@ -1,0 +1,17 @@
+// The parts of the state that the two moves touch; their code is in `moving`.
+use spec_kernel::records::Message;
+use spec_kernel::records::Thread;
+use base_queue::Queue;
+
+// The part of the state that threads move in.
+pub struct Threads {
+    pub records: [Thread; 32],
+    pub places: Queue,
+    pub time: Queue,
+}
+
+// The part of the state that messages move in.
+pub struct Posts {
+    pub records: [Message; 64],
+    pub posted: Queue,
+}

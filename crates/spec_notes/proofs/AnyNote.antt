@@ -1,0 +1,215 @@
+-- Whatever bytes a note holds, the state that is put back has its sizes, and its fields their limits.
+use Prim.Native.Nat.{ℕ, zero, suc, _+_, _≤_, _<_}
+use mathlib.Core.Path.{_≡_, refl, _∙_}
+use mathlib.Core.Bool.{Bool, true, false, cond, _&&_}
+use mathlib.Core.List.{List, [], _∷_, map}
+use native.Mathlib.Omega.{arith}
+use lib.Dec.{eqb, ltb}
+use lib.ListN.{length, getD, drop, length-set, length-map, length-append, length-replicate, List·getD-eq-default}
+use borrow.Author.Tests.{ltb-true, ltb-false}
+use borrow.Table.Steps.{cases}
+use Rattle.base_queue.specs.declared.Queue.{Queue}
+use Rattle.base_queue.specs.Lists.{keep}
+use Rattle.base_queue.specs.Queues.{items, pack}
+use Rattle.base_rows.specs.Rows.{usedBy, rowFrom}
+use Rattle.base_rows.proofs.Fitted.{Bytes, drop-bytes, row-at}
+use Rattle.spec_kernel.specs.declared.records.Thread.{Thread}
+use Rattle.spec_kernel.specs.declared.records.Semaphore.{Semaphore}
+use Rattle.spec_kernel.specs.declared.records.Event.{Event}
+use Rattle.spec_kernel.specs.declared.records.Message.{Message}
+use Rattle.spec_kernel.specs.Records.{noThread, noSemaphore, noEvent, noMessage}
+use Rattle.spec_calls.specs.declared.call.Call.{Call}
+use Rattle.spec_refusals.specs.Refusals.{is}
+use Rattle.spec_notes.specs.Rows.{threadFrom, threadWidths, semaphoreFrom, semaphoreWidths, eventFrom, eventWidths, messageFrom, messageWidths}
+use Rattle.spec_notes.specs.Touched.{oneTickMore, youngerThread, youngerSemaphore}
+use Rattle.spec_notes.specs.Predicted.{wasBlocked, predictedThread, predictedSemaphore, predictedEvent, predictedMessage}
+use Rattle.spec_notes.specs.Back.{place, merge, putBackAll, Threading, readThreads, threadsBefore, readSemaphores, semaphoresBefore}
+use Rattle.spec_notes.specs.Back.{readEvents, bitChanged, eventsBefore, Filing, readMessages, messagesBefore}
+use Rattle.spec_notes.proofs.EntriesBack.{getD-map}
+use Rattle.spec_notes.proofs.Limits.{SmallSemaphore, SmallEvent, set-all}
+
+either-below : (b : Bool) (x y n : ℕ) → x < n → y < n → cond b x y < n
+either-below true x y n p q = p
+either-below false x y n p q = q
+
+-- ---- threads: ticks and priority
+abbrev FineThread : Thread → Type 0
+FineThread r = (r .ticks < 4294967296) × (r .priority < 256)
+
+more-small : (n : ℕ) → n < 4294967296 → oneTickMore n < 4294967296
+more-small n b = cases (ltb n 4294967295) (λ e. rw e (omega (arith, ltb-true n 4294967295 e))) (λ e. rw e b)
+
+module _ (c : Call) where
+  thread-read : (r : Thread) → FineThread r → (code flags : ℕ) (s : List ℕ) → Bytes s
+      → FineThread (threadFrom code (rowFrom threadWidths flags (predictedThread c r code) s))
+  unfolding threadFrom predictedThread
+  thread-read r (t, p) code flags s h = (
+    row-at threadWidths flags _ s h 3 (either-below (wasBlocked code) _ _ _ (either-below (is c 1) _ _ _ (omega arith) t) (omega arith)),
+    row-at threadWidths flags _ s h 0 p,
+  )
+
+  thread-younger : (r : Thread) → FineThread r → FineThread (youngerThread c r)
+  unfolding youngerThread
+  thread-younger r (t, p) = (either-below (is c 1 && ltb 0 (r .ticks)) _ _ _ (more-small (r .ticks) t) t, p)
+
+  module _ (new : List Thread) (F : (t : ℕ) → FineThread (getD new t noThread)) where
+    threads-fine : (n : ℕ) (s : List ℕ) (a : Threading) → Bytes s → ((t : ℕ) → FineThread (getD (a .threads) t noThread))
+        → (t : ℕ) → FineThread (getD (readThreads n c new s a .threads) t noThread)
+    unfolding readThreads
+    threads-fine zero s a h f = f
+    threads-fine (suc n) [] a h f = f
+    threads-fine (suc n) (x ∷ s) a h f =
+        let h′ : Bytes s = λ i. h (suc i) in
+        threads-fine n _ _ (drop-bytes (2 + usedBy threadWidths (getD s 1 0)) s h′)
+        (set-all FineThread (a .threads) x _ noThread (thread-read (getD new x noThread) (F x) _ _ _ (drop-bytes 2 s h′)) f)
+
+    threads-count : (n : ℕ) (s : List ℕ) (a : Threading) → length (readThreads n c new s a .threads) ≡ length (a .threads)
+    unfolding readThreads
+    threads-count zero s a = refl
+    threads-count (suc n) [] a = refl
+    threads-count (suc n) (x ∷ s) a = threads-count n _ _ ∙ length-set (a .threads) x _
+
+    pub threads-any : (s : List ℕ) → Bytes s → (t : ℕ) → FineThread (getD (threadsBefore c new s .threads) t noThread)
+    unfolding threadsBefore
+    threads-any s h =
+        threads-fine (length s) s _ h
+        (λ t. cases (ltb t (length new)) (λ e. rw (getD-map (youngerThread c) new t noThread (ltb-true t (length new) e)) (thread-younger _ (F t)))
+        (λ e. let b : length (map (youngerThread c) new) ≤ t = rw length-map (ltb-false t (length new) e) in
+        rw (List·getD-eq-default (map (youngerThread c) new) noThread b) (omega arith)))
+
+    pub threads-sized : (s : List ℕ) → length (threadsBefore c new s .threads) ≡ length new
+    unfolding threadsBefore
+    threads-sized s = threads-count (length s) s _ ∙ length-map new (youngerThread c)
+
+-- ---- semaphores
+module _ (c : Call) where
+  semaphore-read : (r : Semaphore) → SmallSemaphore r → (flags : ℕ) (s : List ℕ) → Bytes s
+      → SmallSemaphore (semaphoreFrom (rowFrom semaphoreWidths flags (predictedSemaphore c r) s))
+  unfolding semaphoreFrom predictedSemaphore
+  semaphore-read r (m, t, p) flags s h = (
+    row-at semaphoreWidths flags _ s h 2 (either-below (is c 14) _ _ _ (omega arith) m),
+    row-at semaphoreWidths flags _ s h 3 (either-below (is c 1) _ _ _ (omega arith) t),
+    row-at semaphoreWidths flags _ s h 4 p,
+  )
+
+  semaphore-younger : (r : Semaphore) → SmallSemaphore r → SmallSemaphore (youngerSemaphore c r)
+  unfolding youngerSemaphore
+  semaphore-younger r (m, t, p) = (m, either-below (is c 1 && ltb 0 (r .period)) _ _ _ (more-small (r .ticks) t) t, p)
+
+  module _ (new : List Semaphore) (F : (i : ℕ) → SmallSemaphore (getD new i noSemaphore)) where
+    semaphores-fine : (n : ℕ) (s : List ℕ) (a : List Semaphore) → Bytes s → ((i : ℕ) → SmallSemaphore (getD a i noSemaphore))
+        → (i : ℕ) → SmallSemaphore (getD (readSemaphores n c new s a) i noSemaphore)
+    unfolding readSemaphores
+    semaphores-fine zero s a h f = f
+    semaphores-fine (suc n) [] a h f = f
+    semaphores-fine (suc n) (x ∷ s) a h f =
+        let h′ : Bytes s = λ i. h (suc i) in
+        semaphores-fine n _ _ (drop-bytes (1 + usedBy semaphoreWidths (getD s 0 0)) s h′)
+        (set-all SmallSemaphore a x _ noSemaphore (semaphore-read (getD new x noSemaphore) (F x) _ _ (drop-bytes 1 s h′)) f)
+
+    semaphores-count : (n : ℕ) (s : List ℕ) (a : List Semaphore) → length (readSemaphores n c new s a) ≡ length a
+    unfolding readSemaphores
+    semaphores-count zero s a = refl
+    semaphores-count (suc n) [] a = refl
+    semaphores-count (suc n) (x ∷ s) a = semaphores-count n _ _ ∙ length-set a x _
+
+    pub semaphores-any : (s : List ℕ) → Bytes s → (i : ℕ) → SmallSemaphore (getD (semaphoresBefore c new s) i noSemaphore)
+    unfolding semaphoresBefore
+    semaphores-any s h =
+        semaphores-fine (length s) s _ h
+        (λ i. cases (ltb i (length new)) (λ e. rw (getD-map (youngerSemaphore c) new i noSemaphore (ltb-true i (length new) e)) (semaphore-younger _ (F i)))
+        (λ e. let b : length (map (youngerSemaphore c) new) ≤ i = rw length-map (ltb-false i (length new) e) in
+        rw (List·getD-eq-default (map (youngerSemaphore c) new) noSemaphore b) (omega arith)))
+
+    pub semaphores-sized : (s : List ℕ) → length (semaphoresBefore c new s) ≡ length new
+    unfolding semaphoresBefore
+    semaphores-sized s = semaphores-count (length s) s _ ∙ length-map new (youngerSemaphore c)
+
+-- ---- events
+event-read : (r : Event) → SmallEvent r → (flags : ℕ) (s : List ℕ) → Bytes s
+    → SmallEvent (eventFrom (rowFrom eventWidths flags (predictedEvent r) s))
+unfolding eventFrom
+event-read r (m, v) flags s h = (row-at eventWidths flags _ s h 1 m, row-at eventWidths flags _ s h 2 v)
+
+module _ (new : List Event) (F : (i : ℕ) → SmallEvent (getD new i noEvent)) where
+  events-fine : (n : ℕ) (s : List ℕ) (a : List Event) → Bytes s → ((i : ℕ) → SmallEvent (getD a i noEvent))
+      → (i : ℕ) → SmallEvent (getD (readEvents n new s a) i noEvent)
+  unfolding readEvents
+  events-fine zero s a h f = f
+  events-fine (suc n) [] a h f = f
+  events-fine (suc n) (x ∷ s) a h f =
+      let h′ : Bytes s = λ i. h (suc i) in
+      events-fine n _ _ (drop-bytes (1 + usedBy eventWidths (getD s 0 0)) s h′)
+      (set-all SmallEvent a x _ noEvent (event-read (getD new x noEvent) (F x) _ _ (drop-bytes 1 s h′)) f)
+
+  events-count : (n : ℕ) (s : List ℕ) (a : List Event) → length (readEvents n new s a) ≡ length a
+  unfolding readEvents
+  events-count zero s a = refl
+  events-count (suc n) [] a = refl
+  events-count (suc n) (x ∷ s) a = events-count n _ _ ∙ length-set a x _
+
+  pub events-any : (s : List ℕ) → Bytes s → (i : ℕ) → SmallEvent (getD (eventsBefore new s) i noEvent)
+  unfolding eventsBefore
+  events-any s h = events-fine (length s) _ new (drop-bytes (cond (bitChanged s) 1 0) s h) F
+
+  pub events-sized : (s : List ℕ) → length (eventsBefore new s) ≡ length new
+  unfolding eventsBefore
+  events-sized s = events-count (length s) _ new
+
+-- ---- messages: type, size, address and channel
+abbrev FineMessage : Message → Type 0
+FineMessage r = (r .kind < 65536) × (r .size < 4294967296) × (r .address < 4294967296) × (r .channel < 256)
+
+module _ (c : Call) (runner : ℕ) where
+  message-read : (r : Message) → FineMessage r → (flags : ℕ) (s : List ℕ) → Bytes s
+      → FineMessage (messageFrom (rowFrom messageWidths flags (predictedMessage c runner r) s))
+  unfolding messageFrom predictedMessage
+  message-read r (k, z, a, _) flags s h = (
+    row-at messageWidths flags _ s h 3 (either-below (is c 24) _ _ _ (omega arith) k),
+    row-at messageWidths flags _ s h 4 (either-below (is c 24) _ _ _ (omega arith) z),
+    row-at messageWidths flags _ s h 5 (either-below (is c 24) _ _ _ (omega arith) a),
+    row-at messageWidths flags _ s h 6 (omega arith),
+  )
+
+  module _ (new : List Message) (F : (m : ℕ) → FineMessage (getD new m noMessage)) where
+    messages-fine : (n : ℕ) (s : List ℕ) (a : Filing) → Bytes s → ((m : ℕ) → FineMessage (getD (a .messages) m noMessage))
+        → (m : ℕ) → FineMessage (getD (readMessages n c runner new s a .messages) m noMessage)
+    unfolding readMessages
+    messages-fine zero s a h f = f
+    messages-fine (suc n) [] a h f = f
+    messages-fine (suc n) (x ∷ s) a h f =
+        let h′ : Bytes s = λ i. h (suc i) in
+        messages-fine n _ _ (drop-bytes (1 + usedBy messageWidths (getD s 0 0)) s h′)
+        (set-all FineMessage (a .messages) x _ noMessage (message-read (getD new x noMessage) (F x) _ _ (drop-bytes 1 s h′)) f)
+
+    messages-count : (n : ℕ) (s : List ℕ) (a : Filing) → length (readMessages n c runner new s a .messages) ≡ length (a .messages)
+    unfolding readMessages
+    messages-count zero s a = refl
+    messages-count (suc n) [] a = refl
+    messages-count (suc n) (x ∷ s) a = messages-count n _ _ ∙ length-set (a .messages) x _
+
+    pub messages-any : (s : List ℕ) → Bytes s → (m : ℕ) → FineMessage (getD (messagesBefore c runner new s .messages) m noMessage)
+    unfolding messagesBefore
+    messages-any s h = messages-fine (length s) s _ h F
+
+    pub messages-sized : (s : List ℕ) → length (messagesBefore c runner new s .messages) ≡ length new
+    unfolding messagesBefore
+    messages-sized s = messages-count (length s) s _
+
+-- ---- the tables
+place-short : (x : ℕ) (l : List ℕ) (n : ℕ) (go : List ℕ → List ℕ) → ((m : List ℕ) → length (go m) ≤ n) → length (place x l go) ≤ suc n
+place-short x [] n go h = cases (eqb x 255) (λ e. rw e (omega arith)) (λ e. rw e (omega (arith, h [])))
+place-short x (y ∷ l) n go h = cases (eqb x 255) (λ e. rw e (omega (arith, h l))) (λ e. rw e (omega (arith, h (y ∷ l))))
+
+merge-short : (n : ℕ) (at l : List ℕ) → length (merge n at l) ≤ n
+merge-short zero at l = omega arith
+merge-short (suc n) at l = place-short (getD at 0 255) l n (merge n (drop 1 at)) (merge-short n (drop 1 at))
+
+pack-full : (l : List ℕ) → length l ≤ 64 → length (pack l .at) ≡ 64
+pack-full l h = simp (length-append, length-replicate) (omega arith)
+
+pub back-full : (out at : List ℕ) (q : Queue) → length (putBackAll out at q .at) ≡ 64
+unfolding putBackAll
+back-full out at q =
+    let l : List ℕ = keep (λ x. eqb (getD out x 0) 0) (items q) in
+    pack-full (merge 64 at l) (merge-short 64 at l)

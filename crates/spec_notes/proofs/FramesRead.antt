@@ -1,0 +1,134 @@
+-- A note's frame reads back: its call record and its five sections; and the last note of a log is found.
+use Prim.Native.Nat.{ℕ, _+_, _-_, _≤_, _<_}
+use mathlib.Core.Path.{_≡_, sym, _∙_}
+use mathlib.Core.Bool.{true}
+use mathlib.Core.List.{List, _++_, append-assoc}
+use native.Mathlib.Omega.{arith}
+use lib.ListN.{length, take, drop, length-append}
+use lib.Seq.{take-at, drop-at, drop-drop, take-append-seam, drop-append-seam}
+use borrow.Author.Tests.{eq-eqb, le-leb}
+use Rattle.base_bytes.specs.Bytes.{le, un}
+use Rattle.base_bytes.proofs.Numbers.{length-le, drop-le, un-le}
+use Rattle.spec_kernel.specs.declared.records.Kernel.{Kernel}
+use Rattle.spec_calls.specs.Calls.{callOf}
+use Rattle.spec_notes.specs.Sections.{schedulerSection, threadsSection, semaphoresSection, eventsSection, messagesSection}
+use Rattle.spec_notes.specs.Notes.{section, front, noteOf}
+use Rattle.spec_notes.specs.Frames.{sections, isWhole, firstSection, behindSection, framesFrom, framesOf}
+use Rattle.spec_notes.specs.Undo.{lastLength, hasLast, lastNote}
+use Rattle.spec_notes.proofs.EntriesShort.{scheduler-short, threads-below, semaphores-below, events-below, messages-below}
+use Rattle.spec_notes.proofs.Lengths.{note-length}
+use Rattle.spec_notes.proofs.WayBack.{sectionsOf}
+
+-- ---- one section
+module _ (s rest : List ℕ) (b : length s < 65536) where
+  abbrev bytes : List ℕ
+  bytes = section s ++ rest
+
+  size : un 2 bytes ≡ length s
+  size = rw append-assoc (un-le 2 (length s) (s ++ rest) b)
+
+  past : drop 2 bytes ≡ s ++ rest
+  past = rw append-assoc (drop-le 2 (length s) (s ++ rest))
+
+  whole : isWhole bytes ≡ true
+  unfolding isWhole
+  whole = rw size (le-leb (2 + length s) (length bytes) (simp (length-append, length-le) (omega arith)))
+
+  first : firstSection bytes ≡ s
+  unfolding firstSection
+  first = rw (size, past) (take-append-seam s rest)
+
+  behind : behindSection bytes ≡ rest
+  unfolding behindSection
+  behind = rw (size, ← drop-drop (length s) 2 bytes, past) (drop-append-seam s rest)
+
+-- ---- five sections and two bytes
+module _ (a b c d e end : List ℕ) (a′ : length a < 65536) (b′ : length b < 65536) (c′ : length c < 65536) (d′ : length d < 65536)
+    (e′ : length e < 65536) (end′ : length end ≡ 2) where
+  five : framesFrom (section a ++ (section b ++ (section c ++ (section d ++ (section e ++ end)))))
+      ≡ sections (record { scheduler = a; threads = b; semaphores = c; events = d; messages = e })
+  unfolding framesFrom
+  five =
+      rw (
+        behind a _ a′,
+        behind b _ b′,
+        behind c _ c′,
+        behind d _ d′,
+        behind e _ e′,
+        whole a _ a′,
+        whole b _ b′,
+        whole c _ c′,
+        whole d _ d′,
+        whole e _ e′,
+        first a _ a′,
+        first b _ b′,
+        first c _ c′,
+        first d _ d′,
+        first e _ e′,
+        eq-eqb (length end) 2 end′,
+      )
+
+-- all of them before what is behind
+regroup : (bytes a b c d e end : List ℕ)
+    → (bytes ++ (a ++ (b ++ (c ++ (d ++ e))))) ++ end ≡ bytes ++ (a ++ (b ++ (c ++ (d ++ (e ++ end)))))
+regroup bytes a b c d e end = simp append-assoc
+
+-- ---- the note
+module _ (k : Kernel) (bytes : List ℕ) (k′ : Kernel) (h : length bytes ≡ 16) where
+  pub frames-back : framesOf (noteOf k bytes k′) ≡ sections (sectionsOf k (callOf bytes) k′)
+  unfolding framesOf noteOf front
+  frames-back =
+      let c = callOf bytes in
+      rw (regroup bytes _ _ _ _ _ _, drop-at bytes _ 16 h)
+      (five (schedulerSection k c k′) (threadsSection k c k′) (semaphoresSection k c k′) (eventsSection k c k′) (messagesSection k c k′) _
+      (omega (arith, scheduler-short k c k′)) (omega (arith, threads-below k c k′)) (omega (arith, semaphores-below k c k′))
+      (omega (arith, events-below k c k′)) (omega (arith, messages-below k c k′)) (length-le 2 _))
+
+  pub record-back : take 16 (noteOf k bytes k′) ≡ bytes
+  unfolding noteOf front
+  record-back = rw (regroup bytes _ _ _ _ _ _) (take-at bytes _ 16 h)
+
+  -- a note has 28 bytes at least, and its length fits its two bytes
+  pub note-sizes : (28 ≤ length (noteOf k bytes k′)) × (length (noteOf k bytes k′) < 65536)
+  note-sizes =
+      let c = callOf bytes in
+      let all = note-length k bytes k′ h in
+      omega (arith, scheduler-short k c k′, threads-below k c k′, semaphores-below k c k′, events-below k c k′, messages-below k c k′)
+
+  front-size : length (noteOf k bytes k′) ≡ length (front k bytes k′) + 2
+  unfolding noteOf
+  front-size = rw (length-append, length-le)
+
+  -- ---- the last note of a log
+  module _ (earlier rest : List ℕ) where
+    abbrev log : List ℕ
+    log = earlier ++ (noteOf k bytes k′ ++ rest)
+
+    abbrev used : ℕ
+    used = length earlier + length (noteOf k bytes k′)
+
+    split : log ≡ (earlier ++ front k bytes k′) ++ (le 2 (length (front k bytes k′) + 2) ++ rest)
+    unfolding noteOf
+    split = simp append-assoc
+
+    last-length : lastLength log used ≡ length (noteOf k bytes k′)
+    unfolding lastLength
+    last-length =
+        let f = front-size in
+        let (_, small) = note-sizes in
+        let e : used - 2 ≡ length (earlier ++ front k bytes k′) = rw length-append (omega arith) in
+        rw (e, split, drop-append-seam) (un-le 2 (length (front k bytes k′) + 2) rest (omega arith) ∙ sym f)
+
+    has-last : hasLast log used ≡ true
+    unfolding hasLast
+    has-last =
+        let (low, _) = note-sizes in
+        let n = length (noteOf k bytes k′) in
+        let l : used ≤ length log = simp length-append (omega arith) in
+        rw (last-length, le-leb 2 used (omega arith), le-leb used (length log) l, le-leb 28 n low, le-leb n used (omega arith))
+
+    pub last-back : lastNote log used ≡ noteOf k bytes k′
+    unfolding lastNote
+    last-back =
+        let e : used - length (noteOf k bytes k′) ≡ length earlier = omega arith in
+        rw (has-last, last-length, e, drop-append-seam) (take-append-seam (noteOf k bytes k′) rest)

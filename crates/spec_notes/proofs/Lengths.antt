@@ -1,0 +1,239 @@
+-- The note of an accepted call has at most 96 + 24 T + 16 S + 16 M bytes.
+use Prim.Native.Nat.{ℕ, _+_, _-_, _*_, _≤_, _<_}
+use mathlib.Core.Path.{_≡_, refl, sym, ap}
+use mathlib.Core.Bool.{Bool, true, false, cond, not, and-false, or-false, false≢true, and-eq-true-iff}
+use mathlib.Core.List.{List, [], _∷_}
+use native.Mathlib.Nat.{zero-mul, mul-one}
+use native.Mathlib.Omega.{arith}
+use lib.Dec.{eqb, ltb}
+use lib.ListN.{length, getD, length-append}
+use borrow.Author.Tests.{eqb-true, le-ltb, not-false}
+use borrow.Table.Steps.{cases}
+use Rattle.base_queue.specs.Tables.{one}
+use Rattle.base_queue.proofs.Counts.{same}
+use Rattle.base_rows.specs.Rows.{bodyOf}
+use Rattle.base_bytes.proofs.Numbers.{length-le}
+use Rattle.spec_kernel.specs.declared.records.Thread.{Thread}
+use Rattle.spec_kernel.specs.declared.records.Semaphore.{Semaphore}
+use Rattle.spec_kernel.specs.declared.records.Kernel.{Kernel}
+use Rattle.spec_kernel.specs.Records.{thread, semaphore, message}
+use Rattle.spec_rules.specs.Rules.{Sized, Rules}
+use Rattle.spec_calls.specs.declared.call.Call.{Call}
+use Rattle.spec_calls.specs.Calls.{callOf}
+use Rattle.spec_refusals.specs.Refusals.{is, isOneOf, numberOf}
+use Rattle.spec_moves.specs.States.{scheduled}
+use Rattle.spec_time.specs.Time.{tick}
+use Rattle.spec_effects.specs.Effects.{noKind, kinds, effect}
+use Rattle.proof_rules.proofs.Core.{live-semaphore}
+use Rattle.proof_rules.proofs.Ends.{Before, before}
+use Rattle.proof_rules.proofs.Accepted.{accepted}
+use Rattle.proof_rules.proofs.Kept.{rules-kept}
+use Rattle.spec_notes.specs.Rows.{threadCode, threadRow, semaphoreRow, semaphoreWidths}
+use Rattle.spec_notes.specs.Touched.{sameThread, sameSemaphore, youngerThread, youngerSemaphore, movesInPlace}
+use Rattle.spec_notes.specs.Touched.{touchedThread, touchedSemaphore, touchedEvent, touchedMessage}
+use Rattle.spec_notes.specs.Predicted.{predictedSemaphore}
+use Rattle.spec_notes.specs.Sections.{entriesFrom, threadEntry, semaphoreEntry, eventEntry, messageEntry}
+use Rattle.spec_notes.specs.Sections.{schedulerSection, threadsSection, semaphoresSection, eventsSection, messagesSection}
+use Rattle.spec_notes.specs.Notes.{front, noteOf}
+use Rattle.spec_notes.specs.Counts.{countFrom, sameMessageRecord, threadsDiffer, semaphoresDiffer, messagesDiffer, mostBytes}
+use Rattle.spec_notes.specs.Within.{Within, CallWithin}
+use Rattle.spec_notes.proofs.RecordsBack.{same-thread, same-semaphore}
+use Rattle.spec_notes.proofs.EntriesShort.{entries-short, entries-but-one, count-none}
+use Rattle.spec_notes.proofs.EntriesShort.{thread-entry, semaphore-entry, event-entry, message-entry-live, scheduler-short}
+use Rattle.spec_notes.proofs.Slight.{Slight, row-same, effect-slight}
+use Rattle.spec_notes.proofs.TickSlight.{Aged, tick-threads, tick-semaphores}
+
+-- ---- records that stay
+pub thread-same : (r : Thread) → sameThread r r ≡ true
+unfolding sameThread
+thread-same r = rw (same (threadCode r), row-same (threadRow r 0 0))
+
+pub semaphore-same : (r : Semaphore) → sameSemaphore r r ≡ true
+unfolding sameSemaphore
+semaphore-same r = row-same (semaphoreRow r)
+
+-- without a tick, and without ticks, nobody was younger
+pub younger-now : (c : Call) (r : Thread) → is c 1 ≡ false → youngerThread c r ≡ r
+unfolding youngerThread
+younger-now c r o = rw o
+
+younger-still : (c : Call) (r : Thread) → r .ticks ≡ 0 → youngerThread c r ≡ r
+unfolding youngerThread
+younger-still c r e = let z : ltb 0 (r .ticks) ≡ false = le-ltb 0 (r .ticks) (omega arith) in rw (z, and-false)
+
+pub semaphore-now : (c : Call) (r : Semaphore) → is c 1 ≡ false → youngerSemaphore c r ≡ r
+unfolding youngerSemaphore
+semaphore-now c r o = rw o
+
+semaphore-still : (c : Call) (r : Semaphore) → r .period ≡ 0 → youngerSemaphore c r ≡ r
+unfolding youngerSemaphore
+semaphore-still c r e = let z : ltb 0 (r .period) ≡ false = le-ltb 0 (r .period) (omega arith) in rw (z, and-false)
+
+-- only one moves in place
+pub moves-which : (runner : ℕ) (c : Call) (t : ℕ) → movesInPlace runner c t ≡ true → t ≡ cond (is c 6) runner (c .a)
+moves-which runner c t h =
+    cases (is c 6)
+    (λ e. let z = eqb-true (c .kind) 6 e in rw e (eqb-true t runner (simp (z, or-false) at h)))
+    (λ e. rw e (eqb-true t (c .a) (and-eq-true-iff (isOneOf c (4 ∷ 5 ∷ [])) (eqb t (c .a)) .0 (rw e at h) .1)))
+
+-- ---- entries of those that differ
+entries-all : (touched differs : ℕ → Bool) (entry : ℕ → List ℕ) (w : ℕ) → ((i : ℕ) → length (entry i) ≤ w)
+    → ((i : ℕ) → touched i ≡ true → differs i ≡ true) → (i n : ℕ) → length (entriesFrom touched entry i n) ≤ w * countFrom differs i n
+entries-all touched differs entry w h d i n =
+    let s = entries-short touched differs entry w 0 (λ j t. let b = h j in rw (d j t, mul-one) (omega arith)) i n in
+    let z = zero-mul n in
+    omega arith
+
+-- as predicted, no bytes
+body-same : (ws os : List ℕ) → bodyOf ws os os ≡ []
+unfolding bodyOf
+body-same [] os = refl
+body-same (w ∷ ws) [] = refl
+body-same (w ∷ ws) (o ∷ os) = rw (same o, body-same ws os)
+
+-- ---- the sections
+module _ (k : Kernel) (c : Call) (k′ : Kernel) where
+  abbrev threadDiffers : ℕ → Bool
+  threadDiffers t = not (sameThread (thread k t) (thread k′ t))
+
+  abbrev semaphoreDiffers : ℕ → Bool
+  semaphoreDiffers i = not (sameSemaphore (semaphore k i) (semaphore k′ i))
+
+  abbrev messageDiffers : ℕ → Bool
+  messageDiffers m = not (sameMessageRecord (message k m) (message k′ m))
+
+  module _ (L : Slight k c k′) where
+    events-one : (n : ℕ) → length (entriesFrom (touchedEvent k c k′) (eventEntry k c k′) 0 n) ≤ 11
+    events-one n =
+        let s = entries-but-one (touchedEvent k c k′) (λ _. false) (eventEntry k c k′) 11 (λ i _. event-entry k c k′ i) (c .a) (λ i t _. L .events i t) 0 n in
+        let z = count-none 0 n in
+        omega arith
+
+    events-short : length (eventsSection k c k′) ≤ 12
+    unfolding eventsSection
+    events-short =
+        let more : (h m : ℕ) → h ≤ 1 → m ≤ 11 → h + m ≤ 12 = λ h m a b. omega arith in
+        rw length-append
+        (cases (eqb (k .bits) (k′ .bits)) (λ e. rw e (more 0 _ (omega arith) (events-one 8))) (λ e. rw e (more 1 _ (omega arith) (events-one 8))))
+
+    messages-short : length (messagesSection k c k′) ≤ 16 * messagesDiffer k k′ + 16
+    unfolding messagesSection messagesDiffer
+    messages-short =
+        entries-but-one (touchedMessage k c k′) messageDiffers (messageEntry k c k′) 16 (λ m t. message-entry-live k c k′ m (L .lives m t))
+        (L .which) (λ m t d. L .alike m t (not-false _ d)) 0 64
+
+  -- ---- any call but the tick
+  module _ (o : is c 1 ≡ false) where
+    thread-moves : (t : ℕ) → touchedThread k c k′ t ≡ true → threadDiffers t ≡ false → t ≡ cond (is c 6) (k .runner) (c .a)
+    unfolding touchedThread
+    thread-moves t h d = moves-which (k .runner) c t (rw (younger-now c (thread k′ t) o, d) at h)
+
+    threads-called : length (threadsSection k c k′) ≤ 15 * threadsDiffer k k′ + 15
+    unfolding threadsSection threadsDiffer
+    threads-called =
+        entries-but-one (touchedThread k c k′) threadDiffers (threadEntry k c k′) 15 (λ t _. thread-entry k c k′ t)
+        (cond (is c 6) (k .runner) (c .a)) thread-moves 0 32
+
+    semaphore-differs : (i : ℕ) → touchedSemaphore k c k′ i ≡ true → semaphoreDiffers i ≡ true
+    unfolding touchedSemaphore
+    semaphore-differs i h = rw (semaphore-now c (semaphore k′ i) o) at h
+
+    semaphores-called : length (semaphoresSection k c k′) ≤ 15 * semaphoresDiffer k k′
+    unfolding semaphoresSection semaphoresDiffer
+    semaphores-called =
+        entries-all (touchedSemaphore k c k′) semaphoreDiffers (semaphoreEntry k c k′) 15 (semaphore-entry k c k′) semaphore-differs 0 16
+
+  -- ---- the tick
+  module _ (B : Before k) (B′ : Before k′) (e : c .kind ≡ 1) where
+    module _ (less : (t : ℕ) → thread k′ t .ticks ≤ thread k t .ticks - 1) where
+      thread-differs : (t : ℕ) → touchedThread k c k′ t ≡ true → threadDiffers t ≡ true
+      unfolding touchedThread
+      thread-differs t h =
+          let r = thread k t in
+          cases (sameThread r (thread k′ t))
+          (λ s. let z = same-thread r (thread k′ t) (B .core .threads t .gone) (B′ .core .threads t .gone) s in
+          let d : r .ticks ≡ 0 = let q = ap (λ (x : Thread). x .ticks) z in omega (arith, less t) in
+          absurd (false≢true (simp (← z, younger-still c r d, thread-same r, e) at h)))
+          (λ s. rw s)
+
+      threads-tick : length (threadsSection k c k′) ≤ 15 * threadsDiffer k k′
+      unfolding threadsSection threadsDiffer
+      threads-tick =
+          entries-all (touchedThread k c k′) threadDiffers (threadEntry k c k′) 15 (thread-entry k c k′) thread-differs 0 32
+
+    module _ (aged : (i : ℕ) → i < 16 → Aged (semaphore k i) (semaphore k′ i)) where
+      -- whose record is the same had one tick left, as predicted
+      semaphore-predicted : (i : ℕ) → touchedSemaphore k c k′ i ≡ true → sameSemaphore (semaphore k i) (semaphore k′ i) ≡ true
+          → predictedSemaphore c (semaphore k′ i) ≡ semaphoreRow (semaphore k i)
+      unfolding touchedSemaphore predictedSemaphore
+      semaphore-predicted i h s =
+          let r = semaphore k i in
+          let z : semaphore k′ i ≡ r = sym (same-semaphore r (semaphore k′ i) s) in
+          let p : r .period ≡ 0 → ⊥ =
+          λ q. false≢true (rw (z, semaphore-still c r q, semaphore-same r) at h) in
+          let l : r .live ≡ true =
+          cases (r .live) (λ l. l) (λ l. absurd (p (ap (λ (x : Semaphore). x .period) (B .core .semaphores i .gone l)))) in
+          let b = B .core .semaphores i .living l .ticks .1 (omega (arith, p)) in
+          let one-left : r .ticks ≡ 1 = aged i (live-semaphore (B .core) i l) p b (ap (λ (x : Semaphore). x .ticks) z) in
+          rw (z, e, l, one-left)
+
+      semaphore-two : (i : ℕ) → touchedSemaphore k c k′ i ≡ true → length (semaphoreEntry k c k′ i) ≤ 13 * one (semaphoreDiffers i) + 2
+      unfolding semaphoreEntry
+      semaphore-two i h =
+          cases (sameSemaphore (semaphore k i) (semaphore k′ i))
+          (λ s. rw (s, semaphore-predicted i h s, body-same semaphoreWidths (semaphoreRow (semaphore k i))) (omega arith))
+          (λ s. rw s (semaphore-entry k c k′ i))
+
+      semaphores-tick : length (semaphoresSection k c k′) ≤ 13 * semaphoresDiffer k k′ + 32
+      unfolding semaphoresSection semaphoresDiffer
+      semaphores-tick = entries-short (touchedSemaphore k c k′) semaphoreDiffers (semaphoreEntry k c k′) 13 2 semaphore-two 0 16
+
+-- ---- the note
+module _ (k : Kernel) (bytes : List ℕ) (k′ : Kernel) where
+  pub note-length : length bytes ≡ 16
+      → length (noteOf k bytes k′)
+      ≡ 28 + length (schedulerSection k (callOf bytes) k′) + length (threadsSection k (callOf bytes) k′)
+      + length (semaphoresSection k (callOf bytes) k′) + length (eventsSection k (callOf bytes) k′) + length (messagesSection k (callOf bytes) k′)
+  unfolding noteOf front
+  note-length e = simp (length-append, length-le) (omega arith)
+
+-- what the scheduler chooses changes no record
+scheduled-slight : (k : Kernel) (c : Call) (u : Kernel) → Slight k c u → Slight k c (scheduled u)
+unfolding scheduled touchedEvent touchedMessage
+scheduled-slight k c u L = record { events = L .events; lives = L .lives; which = L .which; alike = L .alike }
+
+module _ (k : Kernel) (c : Call) (S : Before k) (e : c .kind ≡ 1) where
+  effect-tick : effect k c ≡ tick k c
+  unfolding effect
+  effect-tick = ap (λ (n : ℕ). getD kinds n noKind .does k c) e
+
+  scheduled-threads : (t : ℕ) → thread (scheduled (effect k c)) t .ticks ≤ thread k t .ticks - 1
+  unfolding scheduled
+  scheduled-threads t = rw effect-tick (tick-threads k c (S .core .standing) t)
+
+  scheduled-semaphores : (i : ℕ) → i < 16 → Aged (semaphore k i) (semaphore (scheduled (effect k c)) i)
+  unfolding scheduled
+  scheduled-semaphores i b = rw effect-tick (tick-semaphores k c i b)
+
+pub note-short : (k : Kernel) (bytes : List ℕ) → length bytes ≡ 16 → Sized k → Rules k → Within k → CallWithin (callOf bytes)
+    → numberOf k (callOf bytes) ≡ 0
+    → length (noteOf k bytes (scheduled (effect k (callOf bytes)))) ≤ mostBytes k (scheduled (effect k (callOf bytes)))
+unfolding mostBytes
+note-short k bytes b Z R _ _ h =
+    let c = callOf bytes in
+    let k′ : Kernel = scheduled (effect k c) in
+    let B = before k Z R in
+    let (Z′, R′) = rules-kept k c Z R h in
+    let L = scheduled-slight k c (effect k c) (effect-slight B (accepted k c h)) in
+    let whole = note-length k bytes k′ b in
+    let scheduler = scheduler-short k c k′ in
+    let events = events-short k c k′ L in
+    let messages = messages-short k c k′ L in
+    cases (is c 1)
+    (λ o. let e = eqb-true (c .kind) 1 o in
+    let threads = threads-tick k c k′ B (before k′ Z′ R′) e (scheduled-threads k c B e) in
+    let semaphores = semaphores-tick k c k′ B (before k′ Z′ R′) e (scheduled-semaphores k c B e) in
+    omega arith)
+    (λ o. let threads = threads-called k c k′ o in
+    let semaphores = semaphores-called k c k′ o in
+    omega arith)

@@ -1,0 +1,87 @@
+-- A row, written as the flags and the fields that aren't as predicted, reads back.
+use Prim.Native.Nat.{ℕ, zero, suc, _+_, _*_, _/_, _%_, _^_, _≤_, _<_}
+use mathlib.Core.Path.{_≡_, refl, ap}
+use mathlib.Core.Bool.{false}
+use mathlib.Core.List.{List, [], _∷_, _++_, append-assoc}
+use native.Mathlib.Nat.{pow-suc}
+use native.Mathlib.Omega.{arith}
+use lib.Dec.{eqb}
+use lib.Pow.{pow-pos}
+use lib.ListN.{length, drop, replicate, length-append}
+use lib.Seq.{drop-at, drop-append-add, drop-append-seam}
+use borrow.Author.Tests.{eqb-true}
+use borrow.Table.Steps.{cases}
+use Rattle.base_bytes.specs.Bytes.{le, un}
+use Rattle.base_rows.specs.Rows.{flagsOf, bodyOf, usedBy, rowFrom}
+
+-- ---- a number
+length-le : (w x : ℕ) → length (le w x) ≡ w
+unfolding le
+length-le zero x = refl
+length-le (suc w) x = ap suc (length-le w (x / 256))
+
+drop-le : (w x : ℕ) (r : List ℕ) → drop w (le w x ++ r) ≡ r
+drop-le w x r = drop-at (le w x) r w (length-le w x)
+
+un-le : (w x : ℕ) (r : List ℕ) → x < 256 ^ w → un w (le w x ++ r) ≡ x
+unfolding le un
+un-le zero x r h = omega arith
+un-le (suc w) x r h = let p = pow-suc 256 w in omega (arith, un-le w (x / 256) r (omega arith))
+
+-- ---- a row
+-- widths, the old row and the predicted one: an old field that isn't as predicted fits its width
+pub data Fit : List ℕ → List ℕ → List ℕ → Type 0 where
+  none : Fit [] [] []
+  field : {w o p : ℕ} {ws os ps : List ℕ} → (eqb o p ≡ false → o < 256 ^ w) → Fit ws os ps → Fit (w ∷ ws) (o ∷ os) (p ∷ ps)
+
+-- fields that a kind of record doesn't have
+pub unused : (n : ℕ) → Fit (replicate n 0) (replicate n 0) (replicate n 0)
+unused zero = none
+unused (suc n) = field {w = 0} {o = 0} (λ _. omega arith) (unused n)
+
+-- the lowest flag and the others
+even : (f : ℕ) → ((0 + 2 * f) % 2 ≡ 0) × ((0 + 2 * f) / 2 ≡ f)
+even f = omega arith
+
+odd : (f : ℕ) → ((1 + 2 * f) % 2 ≡ 1) × ((1 + 2 * f) / 2 ≡ f)
+odd f = omega arith
+
+pub row-back : {ws os ps : List ℕ} (r : List ℕ) → Fit ws os ps → rowFrom ws (flagsOf os ps) ps (bodyOf ws os ps ++ r) ≡ os
+unfolding rowFrom flagsOf bodyOf
+row-back r none = refl
+row-back r (field {w} {o} {p} {ws} {os} {ps} h t) =
+    let (z, f) = even (flagsOf os ps) in
+    let (z′, f′) = odd (flagsOf os ps) in
+    cases (eqb o p) (λ e. rw (e, z, f, row-back r t, eqb-true o p e))
+    (λ e. rw (e, z′, f′, append-assoc, un-le w o (bodyOf ws os ps ++ r) (h e), drop-le w o, row-back r t))
+
+-- the flags say how many bytes the fields take
+used-back : {ws os ps : List ℕ} → Fit ws os ps → usedBy ws (flagsOf os ps) ≡ length (bodyOf ws os ps)
+unfolding usedBy flagsOf bodyOf
+used-back none = refl
+used-back (field {w} {o} {p} {ws} {os} {ps} h t) =
+    let (z, f) = even (flagsOf os ps) in
+    let (z′, f′) = odd (flagsOf os ps) in
+    cases (eqb o p) (λ e. rw (e, z, f, used-back t) (omega arith)) (λ e. rw (e, z′, f′, length-append, length-le, used-back t))
+
+-- past what stands before the fields, and past them
+pub rest-back : {ws os ps : List ℕ} (h r : List ℕ) → Fit ws os ps
+    → drop (length h + usedBy ws (flagsOf os ps)) (h ++ (bodyOf ws os ps ++ r)) ≡ r
+rest-back {ws} {os} {ps} h r t = rw (used-back t, drop-append-add) (drop-append-seam (bodyOf ws os ps) r)
+
+-- with no flag there are no fields
+pub body-none : {ws os ps : List ℕ} → Fit ws os ps → flagsOf os ps ≡ 0 → bodyOf ws os ps ≡ []
+unfolding flagsOf bodyOf
+body-none none z = refl
+body-none (field {w} {o} {p} {ws} {os} {ps} h t) z =
+    cases (eqb o p) (λ e. rw e (body-none t (omega (arith, rw e at z)))) (λ e. absurd (omega (arith, rw e at z)))
+
+-- the flags of k fields lie below 2 ^ k
+pub flags-below : (k : ℕ) (os ps : List ℕ) → length os ≤ k → flagsOf os ps < 2 ^ k
+unfolding flagsOf
+flags-below k [] ps l = pow-pos k
+flags-below k (o ∷ os) [] l = pow-pos k
+flags-below zero (o ∷ os) (p ∷ ps) l = absurd (omega arith)
+flags-below (suc k) (o ∷ os) (p ∷ ps) l =
+    let r = flags-below k os ps (omega arith) in
+    rw pow-suc (cases (eqb o p) (λ e. rw e (omega arith)) (λ e. rw e (omega arith)))

@@ -1,0 +1,136 @@
+-- The threads' section, read back: their records, and their places in the two tables.
+use Prim.Native.Nat.{ℕ, suc, _<_}
+use mathlib.Core.Path.{_≡_, refl, sym, _∙_}
+use mathlib.Core.Bool.{Bool, true, false, not, _||_, false≢true}
+use mathlib.Core.List.{List, [], _∷_, _++_, map}
+use native.Mathlib.Nat.{le-refl}
+use native.Mathlib.Omega.{arith}
+use lib.Dec.{ltb}
+use lib.ListN.{set, replicate, length-map}
+use Rattle.base_queue.specs.Queues.{items}
+use Rattle.base_queue.specs.Tables.{oldPlace}
+use Rattle.base_queue.proofs.Queues.{length-items}
+use Rattle.spec_kernel.specs.declared.records.Condition.{Condition}
+use Rattle.spec_kernel.specs.declared.records.Condition.the-variants.{Ready, Asleep, ForSemaphore, ForEvent, ForMessage}
+use Rattle.spec_kernel.specs.declared.records.Object.{Object}
+use Rattle.spec_kernel.specs.declared.records.Wake.{Wake}
+use Rattle.spec_kernel.specs.declared.records.Kernel.{Kernel}
+use Rattle.spec_kernel.specs.Records.{thread, noThread}
+use Rattle.spec_kernel.specs.Places.{homeOf, hasHome}
+use Rattle.spec_rules.specs.Rules.{Sized, Rules, DeadThreads}
+use Rattle.spec_rules.proofs.FromRules.{standing}
+use Rattle.spec_calls.specs.declared.call.Call.{Call}
+use Rattle.proof_rules.proofs.Core.{Core, Fits, untrue, live-semaphore, condition-of}
+use Rattle.proof_rules.proofs.Ends.{before}
+use Rattle.spec_notes.specs.Rows.{threadCode, threadRow, threadWidths, wakeCode}
+use Rattle.spec_notes.specs.Touched.{youngerThread, touchedThread}
+use Rattle.spec_notes.specs.Predicted.{predictedThread}
+use Rattle.spec_notes.specs.Sections.{threadEntry, threadsSection}
+use Rattle.spec_notes.specs.Back.{putBackAll, Threading, readThreads, threadsBefore}
+use Rattle.spec_notes.specs.Within.{Within}
+use Rattle.spec_notes.specs.Framed.{Framed}
+use Rattle.spec_notes.proofs.RowsBack.{Fit, none, field, row-back, rest-back}
+use Rattle.spec_notes.proofs.RecordsBack.{ByteId, thread-back, same-thread, younger-dead}
+use Rattle.spec_notes.proofs.EntriesBack.{getD-map, each, read-part, records-back}
+use Rattle.spec_notes.proofs.TablesBack.{place-below, table-back}
+
+pub wake-below : (w : Wake) → wakeCode w < 256
+wake-below Wake.None = omega arith
+wake-below Wake.Met = omega arith
+wake-below (Wake.TimedOut Object.Semaphore) = omega arith
+wake-below (Wake.TimedOut Object.Event) = omega arith
+wake-below (Wake.TimedOut Object.Message) = omega arith
+
+-- one that isn't touched is the same
+neither : (a b : Bool) → (not a || b) ≡ false → a ≡ true
+neither true b h = refl
+neither false b h = absurd (false≢true (sym h))
+
+module _ (k : Kernel) (c : Call) (k′ : Kernel) where
+  abbrev touched : ℕ → Bool
+  touched = touchedThread k c k′
+
+  -- what an entry gives
+  abbrev step : ℕ → Threading → Threading
+  step t a =
+      record {
+        threads = set (a .threads) t (thread k t);
+        out = set (a .out) t 1;
+        at = set (a .at) (oldPlace t (items (k .places))) t;
+        due = set (a .due) (oldPlace t (items (k .time))) t;
+      }
+
+  module _ (Z : Sized k) (R : Rules k) (W : Within k) where
+    fits : (t : ℕ)
+        → Fit threadWidths (threadRow (thread k t) (oldPlace t (items (k .places))) (oldPlace t (items (k .time))))
+        (predictedThread c (thread k′ t) (threadCode (thread k t)))
+    unfolding predictedThread
+    fits t =
+        field (λ _. W .priority t)
+        (field (λ _. W .first t)
+        (field (λ _. W .what t)
+        (field (λ _. W .ticks t)
+        (field (λ _. wake-below (thread k t .wake))
+        (field (λ _. W .reply t)
+        (field (λ _. place-below t (items (k .places)) (length-items (k .places) (Z .places)))
+        (field (λ _. place-below t (items (k .time)) (length-items (k .time) (Z .time))) none)))))))
+
+    -- a live semaphore's id is a byte, and so is an event's
+    byte-id : (t : ℕ) → ByteId (thread k t .condition)
+    byte-id t =
+        let C = before k Z R .core in
+        go C (thread k t .condition) (condition-of C t)
+      where
+        go : Core (untrue k) k → (x : Condition) → Fits (k .semaphores) (untrue k) (thread k t .ticks) x → ByteId x
+        go C Ready h = tt
+        go C Asleep h = tt
+        go C (ForSemaphore i) h = omega (arith, live-semaphore C i (h .0))
+        go C (ForEvent i) h = omega arith
+        go C (ForMessage mask) h = tt
+
+    next : (n t : ℕ) (rest : List ℕ) (a : Threading)
+        → readThreads (suc n) c (k′ .threads) (threadEntry k c k′ t ++ rest) a ≡ readThreads n c (k′ .threads) rest (step t a)
+    unfolding readThreads threadEntry DeadThreads
+    next n t rest a = rw (rest-back (_ ∷ _ ∷ []) rest (fits t), row-back rest (fits t), thread-back (thread k t) _ _ (R .deadThreads t) (byte-id t))
+
+    -- what the section gives, and a part of it
+    abbrev read : Threading
+    read = threadsBefore c (k′ .threads) (threadsSection k c k′)
+
+    part : {B : Type 0} (f : Threading → B) (put : ℕ → B → B) → ((t : ℕ) (a : Threading) → f (step t a) ≡ put t (f a))
+        → f read
+        ≡ each touched put 0 32
+        (f (record { threads = map (youngerThread c) (k′ .threads); out = replicate 64 0; at = replicate 64 255; due = replicate 64 255 }))
+    unfolding threadsBefore threadsSection readThreads threadEntry
+    part f put h =
+        read-part (λ n. readThreads n c (k′ .threads)) touched (threadEntry k c k′) step (λ _. refl) (λ _. refl) (λ _ _. refl) next f put h _ 32 _ (le-refl _)
+
+    out : read .out ≡ each touched (λ t l. set l t 1) 0 32 (replicate 64 0)
+    out = part (λ a. a .out) (λ t l. set l t 1) (λ _ _. refl)
+
+    module _ (Z′ : Sized k′) (R′ : Rules k′) where
+      untouched : (t : ℕ) → touched t ≡ false → youngerThread c (thread k′ t) ≡ thread k t
+      unfolding touchedThread DeadThreads
+      untouched t h =
+          let younger = youngerThread c (thread k′ t) in
+          sym (same-thread (thread k t) younger (R .deadThreads t) (younger-dead c (thread k′ t) (R′ .deadThreads t)) (neither _ _ h))
+
+      pub threads-back : read .threads ≡ k .threads
+      threads-back =
+          part (λ a. a .threads) (λ t l. set l t (thread k t)) (λ _ _. refl)
+          ∙ records-back touched noThread 32 (k .threads) (map (youngerThread c) (k′ .threads)) (Z .threads) (length-map (k′ .threads) _ ∙ Z′ .threads)
+          (λ t b e. getD-map (youngerThread c) (k′ .threads) t noThread (rw (Z′ .threads) b) ∙ untouched t e)
+
+      module _ (F : Framed k c k′) where
+        pub places-back : putBackAll (read .out) (read .at) (k′ .places) ≡ k .places
+        unfolding homeOf
+        places-back =
+            let S = standing k Z R in
+            table-back hasHome noThread refl 32 (omega arith) touched (k .threads) (k′ .threads) (k .places) (k′ .places) (Z .threads) (Z′ .threads)
+            (S .tidyPlaces) (S .placed) (standing k′ Z′ R′ .placed) (F .places) out (part (λ a. a .at) (λ t l. set l _ t) (λ _ _. refl))
+
+        pub time-back : putBackAll (read .out) (read .due) (k′ .time) ≡ k .time
+        time-back =
+            let S = standing k Z R in
+            table-back (λ r. ltb 0 (r .ticks)) noThread refl 32 (omega arith) touched (k .threads) (k′ .threads) (k .time) (k′ .time) (Z .threads) (Z′ .threads)
+            (S .tidyTime) (S .timed) (standing k′ Z′ R′ .timed) (F .time) out (part (λ a. a .due) (λ t l. set l _ t) (λ _ _. refl))

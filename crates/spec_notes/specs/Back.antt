@@ -1,0 +1,181 @@
+-- The way back: the state before, of the state after, the call and the note's sections, whatever they hold.
+use Prim.Native.Nat.{ℕ, zero, suc, _+_, _-_}
+use mathlib.Core.Bool.{Bool, true, false, not, cond, _&&_, _||_}
+use mathlib.Core.List.{List, [], _∷_, _++_, map}
+use lib.Dec.{eqb, ltb}
+use lib.ListN.{length, getD, set, drop, replicate}
+use Rattle.base_queue.specs.declared.Queue.{Queue}
+use Rattle.base_queue.specs.Lists.{keep}
+use Rattle.base_queue.specs.Queues.{items, pack}
+use Rattle.base_bits.specs.Words.{bitAt, withBit, withoutBit}
+use Rattle.base_rows.specs.Rows.{usedBy, rowFrom}
+use Rattle.spec_kernel.specs.declared.records.Thread.{Thread}
+use Rattle.spec_kernel.specs.declared.records.Semaphore.{Semaphore}
+use Rattle.spec_kernel.specs.declared.records.Event.{Event}
+use Rattle.spec_kernel.specs.declared.records.Message.{Message}
+use Rattle.spec_kernel.specs.declared.records.Kernel.{Kernel}
+use Rattle.spec_kernel.specs.Records.{noThread, noSemaphore, noEvent, noMessage}
+use Rattle.spec_kernel.specs.Runner.{chosen}
+use Rattle.spec_moves.specs.States.{withRunner}
+use Rattle.spec_calls.specs.declared.call.Call.{Call}
+use Rattle.spec_refusals.specs.Refusals.{is, isOneOf}
+use Rattle.spec_notes.specs.Rows.{threadFrom, threadWidths, semaphoreFrom, semaphoreWidths, eventFrom, eventWidths, messageFrom, messageWidths, schedulerWidths}
+use Rattle.spec_notes.specs.Touched.{youngerThread, youngerSemaphore}
+use Rattle.spec_notes.specs.Predicted.{predictedThread, predictedSemaphore, predictedEvent, predictedMessage, predictedScheduler}
+
+-- ---- a table of places: who was touched is out, and back at its old place
+-- place by place: the noted member of that place, or else the next one that stayed
+abbrev pub place : ℕ → List ℕ → (List ℕ → List ℕ) → List ℕ
+place x l go = elim l [ [] ↦ cond (eqb x 255) [] (x ∷ go []) | y ∷ m ↦ cond (eqb x 255) (y ∷ go m) (x ∷ go (y ∷ m)) ]
+
+abbrev pub merge : ℕ → List ℕ → List ℕ → List ℕ
+merge zero at l = []
+merge (suc n) at l = place (getD at 0 255) l (merge n (drop 1 at))
+
+-- `at` has at each old place who stood there (255: nobody touched), `out` says of each id whether it was touched
+unfoldable pub putBackAll : List ℕ → List ℕ → Queue → Queue
+putBackAll out at q = pack (merge 64 at (keep (λ x. eqb (getD out x 0) 0) (items q)))
+
+-- ---- threads
+-- the records so far, who was touched, and who stood at each place of `places` and of the time queue
+pub record Threading : Type 0 where
+  pub threads : List Thread
+  pub out : List ℕ
+  pub at : List ℕ
+  pub due : List ℕ
+
+abbrev pub threadBack : ℕ → ℕ → List ℕ → Threading → Threading
+threadBack t code row a =
+    record {
+      threads = set (a .threads) t (threadFrom code row);
+      out = set (a .out) t 1;
+      at = set (a .at) (getD row 6 0) t;
+      due = set (a .due) (getD row 7 0) t;
+    }
+
+-- entry by entry: id, code, flags, fields; `new` are the records after the call
+unfoldable pub readThreads : ℕ → Call → List Thread → List ℕ → Threading → Threading
+readThreads zero c new s a = a
+readThreads (suc n) c new [] a = a
+readThreads (suc n) c new (t ∷ s) a =
+    readThreads n c new (drop (2 + usedBy threadWidths (getD s 1 0)) s)
+    (threadBack t (getD s 0 0)
+    (rowFrom threadWidths (getD s 1 0) (predictedThread c (getD new t noThread) (getD s 0 0)) (drop 2 s))
+    a)
+
+unfoldable pub threadsBefore : Call → List Thread → List ℕ → Threading
+threadsBefore c new s =
+    readThreads (length s) c new s
+    (record {
+      threads = map (youngerThread c) new;
+      out = replicate 64 0;
+      at = replicate 64 255;
+      due = replicate 64 255;
+    })
+
+-- ---- semaphores
+unfoldable pub readSemaphores : ℕ → Call → List Semaphore → List ℕ → List Semaphore → List Semaphore
+readSemaphores zero c new s a = a
+readSemaphores (suc n) c new [] a = a
+readSemaphores (suc n) c new (i ∷ s) a =
+    readSemaphores n c new (drop (1 + usedBy semaphoreWidths (getD s 0 0)) s)
+    (set a i
+    (semaphoreFrom
+    (rowFrom semaphoreWidths (getD s 0 0) (predictedSemaphore c (getD new i noSemaphore)) (drop 1 s))))
+
+unfoldable pub semaphoresBefore : Call → List Semaphore → List ℕ → List Semaphore
+semaphoresBefore c new s = readSemaphores (length s) c new s (map (youngerSemaphore c) new)
+
+-- ---- events and bits
+unfoldable pub readEvents : ℕ → List Event → List ℕ → List Event → List Event
+readEvents zero new s a = a
+readEvents (suc n) new [] a = a
+readEvents (suc n) new (i ∷ s) a =
+    readEvents n new (drop (1 + usedBy eventWidths (getD s 0 0)) s)
+    (set a i (eventFrom (rowFrom eventWidths (getD s 0 0) (predictedEvent (getD new i noEvent)) (drop 1 s))))
+
+-- the section begins with 8: bit a was the other way
+abbrev pub bitChanged : List ℕ → Bool
+bitChanged s = eqb (getD s 0 0) 8
+
+unfoldable pub bitsBefore : Call → ℕ → List ℕ → ℕ
+bitsBefore c bits s =
+    cond (bitChanged s) (cond (bitAt bits (c .a)) (withoutBit bits (c .a)) (withBit bits (c .a))) bits
+
+unfoldable pub eventsBefore : List Event → List ℕ → List Event
+eventsBefore new s = readEvents (length s) new (drop (cond (bitChanged s) 1 0) s) new
+
+-- ---- messages
+pub record Filing : Type 0 where
+  pub messages : List Message
+  pub out : List ℕ
+  pub at : List ℕ
+
+abbrev pub messageBack : ℕ → List ℕ → Filing → Filing
+messageBack m row a =
+    record {
+      messages = set (a .messages) m (messageFrom row);
+      out = set (a .out) m 1;
+      at = set (a .at) (getD row 7 0) m;
+    }
+
+unfoldable pub readMessages : ℕ → Call → ℕ → List Message → List ℕ → Filing → Filing
+readMessages zero c runner new s a = a
+readMessages (suc n) c runner new [] a = a
+readMessages (suc n) c runner new (m ∷ s) a =
+    readMessages n c runner new (drop (1 + usedBy messageWidths (getD s 0 0)) s)
+    (messageBack m
+    (rowFrom messageWidths (getD s 0 0) (predictedMessage c runner (getD new m noMessage)) (drop 1 s))
+    a)
+
+unfoldable pub messagesBefore : Call → ℕ → List Message → List ℕ → Filing
+messagesBefore c runner new s =
+    readMessages (length s) c runner new s
+    (record { messages = new; out = replicate 64 0; at = replicate 64 255 })
+
+-- ---- the scheduler
+unfoldable pub schedulerBefore : Call → Kernel → List ℕ → List ℕ
+schedulerBefore c k′ s = rowFrom schedulerWidths (getD s 0 0) (predictedScheduler c k′) (drop 1 s)
+
+-- uptime wraps backwards too
+abbrev pub earlier : Call → ℕ → ℕ
+earlier c uptime = cond (is c 1) (cond (eqb uptime 0) 4294967295 (uptime - 1)) uptime
+
+-- the bytes of the five sections
+pub record Sections : Type 0 where
+  pub scheduler : List ℕ
+  pub threads : List ℕ
+  pub semaphores : List ℕ
+  pub events : List ℕ
+  pub messages : List ℕ
+
+-- everything but who ran
+unfoldable pub before : Call → Kernel → Sections → Kernel
+before c k′ x =
+    record {
+      threads = threadsBefore c (k′ .threads) (x .threads) .threads;
+      semaphores = semaphoresBefore c (k′ .semaphores) (x .semaphores);
+      events = eventsBefore (k′ .events) (x .events);
+      messages = messagesBefore c (k′ .runner) (k′ .messages) (x .messages) .messages;
+      places =
+          putBackAll (threadsBefore c (k′ .threads) (x .threads) .out) (threadsBefore c (k′ .threads) (x .threads) .at)
+          (k′ .places);
+      time =
+          putBackAll (threadsBefore c (k′ .threads) (x .threads) .out) (threadsBefore c (k′ .threads) (x .threads) .due)
+          (k′ .time);
+      posted =
+          putBackAll (messagesBefore c (k′ .runner) (k′ .messages) (x .messages) .out)
+          (messagesBefore c (k′ .runner) (k′ .messages) (x .messages) .at) (k′ .posted);
+      bits = bitsBefore c (k′ .bits) (x .events);
+      uptime = earlier c (k′ .uptime);
+      unscheduled = getD (schedulerBefore c k′ (x .scheduler)) 0 0;
+      critical = getD (schedulerBefore c k′ (x .scheduler)) 1 0;
+      runner = getD (schedulerBefore c k′ (x .scheduler)) 2 0;
+    }
+
+-- "With both levels 0 the runner is the first ready one of the old state"; else the noted one
+unfoldable pub stateBefore : Call → Kernel → Sections → Kernel
+stateBefore c k′ x =
+    withRunner
+    (cond (eqb (before c k′ x .unscheduled + before c k′ x .critical) 0) (chosen (before c k′ x)) (before c k′ x .runner))
+    (before c k′ x)

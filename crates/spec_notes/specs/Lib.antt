@@ -1,0 +1,13 @@
+pub mod Rows
+pub mod Predicted
+pub mod Touched
+pub mod Back
+pub mod Counts
+pub mod Framed
+pub mod Frames
+pub mod Sections
+pub mod Notes
+pub mod Same
+pub mod Within
+pub mod Undo
+pub mod Undoes

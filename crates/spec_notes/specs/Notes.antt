@@ -1,0 +1,24 @@
+-- The note of a call: the call record, five sections each after its two-byte length, and the whole length.
+use Prim.Native.Nat.{ℕ, _+_}
+use mathlib.Core.List.{List, [], _∷_, _++_}
+use lib.ListN.{length}
+use Rattle.base_bytes.specs.Bytes.{le}
+use Rattle.spec_kernel.specs.declared.records.Kernel.{Kernel}
+use Rattle.spec_calls.specs.Calls.{callOf}
+use Rattle.spec_notes.specs.Sections.{schedulerSection, threadsSection, semaphoresSection, eventsSection, messagesSection}
+
+abbrev pub section : List ℕ → List ℕ
+section bytes = le 2 (length bytes) ++ bytes
+
+-- "the call record, then sections in a fixed order: scheduler, threads, semaphores, events, messages"
+unfoldable pub front : Kernel → List ℕ → Kernel → List ℕ
+front k bytes k′ =
+    bytes
+    ++ (section (schedulerSection k (callOf bytes) k′)
+    ++ (section (threadsSection k (callOf bytes) k′)
+    ++ (section (semaphoresSection k (callOf bytes) k′)
+    ++ (section (eventsSection k (callOf bytes) k′) ++ section (messagesSection k (callOf bytes) k′)))))
+
+-- "The last two bytes are the note's whole length."
+unfoldable pub noteOf : Kernel → List ℕ → Kernel → List ℕ
+noteOf k bytes k′ = front k bytes k′ ++ le 2 (length (front k bytes k′) + 2)

@@ -1,0 +1,74 @@
+-- What of an old record can be told from the call and the record after it: the closer, the shorter the note.
+-- Nothing here has to be right: a field that isn't as predicted is written.
+use Prim.Native.Nat.{ℕ, _+_, _-_}
+use mathlib.Core.Bool.{Bool, true, false, not, cond, _&&_, _||_}
+use mathlib.Core.List.{List, [], _∷_}
+use lib.Dec.{eqb, ltb}
+use Rattle.base_queue.specs.Tables.{one}
+use Rattle.spec_kernel.specs.declared.records.Thread.{Thread}
+use Rattle.spec_kernel.specs.declared.records.Semaphore.{Semaphore}
+use Rattle.spec_kernel.specs.declared.records.Event.{Event}
+use Rattle.spec_kernel.specs.declared.records.Message.{Message}
+use Rattle.spec_kernel.specs.declared.records.Kernel.{Kernel}
+use Rattle.spec_kernel.specs.Conditions.{isReady}
+use Rattle.spec_calls.specs.declared.call.Call.{Call}
+use Rattle.spec_refusals.specs.Refusals.{is, isOneOf}
+use Rattle.spec_notes.specs.Rows.{conditionData, wakeCode, semaphoreRow, eventRow, messageRow, schedulerRow}
+
+-- the thread slept or waited, of its code
+abbrev pub wasBlocked : ℕ → Bool
+wasBlocked code = ltb 1 code
+
+-- A thread of this code before: a ready or dead one had no ticks left, one whose time was up had one; a blocked one that
+-- is ready now had no reason and no reply; the caller stood first; one that slept woke first.
+unfoldable pub predictedThread : Call → Thread → ℕ → List ℕ
+predictedThread c r code =
+    r .priority
+    ∷ r .first
+    ∷ cond (ltb 2 code) (cond (isOneOf c (19 ∷ 28 ∷ [])) (c .a) (conditionData (r .condition))) 0
+    ∷ cond (wasBlocked code) (cond (is c 1) 1 (r .ticks)) 0
+    ∷ cond (wasBlocked code && isReady r) 0 (wakeCode (r .wake))
+    ∷ cond (eqb code 0) 0 (cond (not (r .live) || (wasBlocked code && isReady r)) 255 (r .reply))
+    ∷ cond (eqb code 1 || eqb code 3 || eqb code 4) 0 255
+    ∷ cond (eqb code 2 || (is c 1 && wasBlocked code)) 0 255
+    ∷ []
+
+-- A semaphore: one that a tick posted had one tick left; a new one was none; one that was destroyed was live.
+unfoldable pub predictedSemaphore : Call → Semaphore → List ℕ
+predictedSemaphore c r =
+    cond (is c 14) 0 1
+    ∷ cond (is c 14) 0 (r .count)
+    ∷ cond (is c 14) 0 (r .maximum)
+    ∷ cond (is c 1) 1 (r .ticks)
+    ∷ r .period
+    ∷ 0
+    ∷ 0
+    ∷ 0
+    ∷ []
+
+abbrev pub predictedEvent : Event → List ℕ
+predictedEvent r = eventRow r
+
+-- A message: a new one was none; one that went was live and the owner's; one that was posted was its poster's, who held it.
+unfoldable pub predictedMessage : Call → ℕ → Message → List ℕ
+predictedMessage c runner r =
+    cond (is c 24) 0 1
+    ∷ cond (is c 24) 0 (cond (is c 3) (c .a) (cond (is c 25) runner (cond (is c 26) (r .sender) (r .owner))))
+    ∷ cond (is c 24) 0 (cond (is c 3) (c .a) (cond (is c 25) runner (r .sender)))
+    ∷ cond (is c 24) 0 (r .kind)
+    ∷ cond (is c 24) 0 (r .size)
+    ∷ cond (is c 24) 0 (r .address)
+    ∷ 0
+    ∷ cond (is c 27) 0 255
+    ∷ []
+
+-- The levels before a push and a pop; the runner as after.
+abbrev pub predictedLevels : Call → ℕ → ℕ → ℕ → List ℕ
+predictedLevels c unscheduled critical runner =
+    schedulerRow
+    (cond (is c 8) (unscheduled - 1) (cond (is c 9) (unscheduled + 1) unscheduled))
+    (cond (is c 11) (critical - 1) (cond (is c 12) (critical + 1) critical))
+    runner
+
+unfoldable pub predictedScheduler : Call → Kernel → List ℕ
+predictedScheduler c k′ = predictedLevels c (k′ .unscheduled) (k′ .critical) (k′ .runner)

@@ -1,0 +1,186 @@
+-- The state rules of document 01, in its words and order: one definition for each, and the record that collects them.
+use Prim.Native.Nat.{ℕ, _+_, _≤_, _<_}
+use mathlib.Core.Path.{_≡_}
+use mathlib.Core.Bool.{true, false, _&&_}
+use mathlib.Core.List.{[]}
+use mathlib.Core.Logic.{_⊎_}
+use lib.Dec.{eqb}
+use lib.ListN.{length}
+use Rattle.base_queue.specs.Lists.{count, Ordered}
+use Rattle.base_queue.specs.Queues.{items, Tidy}
+use Rattle.base_queue.specs.Tables.{one}
+use Rattle.spec_kernel.specs.declared.records.Condition.the-variants.{ForSemaphore, ForEvent, ForMessage}
+use Rattle.spec_kernel.specs.declared.records.Kernel.{Kernel}
+use Rattle.spec_kernel.specs.Records.{thread, semaphore, event, message, noThread, noSemaphore, noMessage}
+use Rattle.spec_kernel.specs.Conditions.{isReady, waitsForSemaphore, waitsForEvent, isTimed, masks}
+use Rattle.spec_kernel.specs.Places.{homeOf, hasHome, line, readyList, semaphoreQueue, eventQueue, timeQueue, channel, onChannel, isQueued, streamOf}
+use Rattle.spec_kernel.specs.Truth.{isTrue}
+use Rattle.spec_kernel.specs.Runner.{firstReady}
+
+-- What the types give of every value: the number of records, the store of each table, and bytes for priorities.
+pub record Sized (k : Kernel) : Type 0 where
+  pub threads : length (k .threads) ≡ 32
+  pub semaphores : length (k .semaphores) ≡ 16
+  pub events : length (k .events) ≡ 8
+  pub messages : length (k .messages) ≡ 64
+  pub places : length (k .places .at) ≡ 64
+  pub time : length (k .time .at) ≡ 64
+  pub posted : length (k .posted .at) ≡ 64
+  pub priorities : (t : ℕ) → thread k t .priority < 256
+  pub channels : (m : ℕ) → message k m .channel < 256
+
+-- "A live thread has one condition." It is one field of the record.
+
+-- "Ready: one place in its priority's list."
+unfoldable pub ReadyPlaces : Kernel → Type 0
+ReadyPlaces k = (t p : ℕ) → p ≤ 30 → count t (readyList k p) ≡ one (isReady (thread k t) && eqb (thread k t .priority) p)
+
+-- "Waiting for a semaphore or event: one place in that live object's queue."
+unfoldable pub SemaphorePlaces : Kernel → Type 0
+SemaphorePlaces k = (t i : ℕ) → i < 16 → count t (semaphoreQueue k i) ≡ one (waitsForSemaphore i (thread k t))
+
+unfoldable pub EventPlaces : Kernel → Type 0
+EventPlaces k = (t i : ℕ) → i < 8 → count t (eventQueue k i) ≡ one (waitsForEvent i (thread k t))
+
+unfoldable pub LiveSemaphores : Kernel → Type 0
+LiveSemaphores k = (t i : ℕ) → thread k t .condition ≡ ForSemaphore i → semaphore k i .live ≡ true
+
+unfoldable pub LiveEvents : Kernel → Type 0
+LiveEvents k = (t i : ℕ) → thread k t .condition ≡ ForEvent i → i < 8
+
+-- "These queues, those of a record that isn't live too, hold no other places."
+unfoldable pub NoOtherPlaces : Kernel → Type 0
+NoOtherPlaces k = (t : ℕ) → hasHome (thread k t) ≡ false → count t (items (k .places)) ≡ 0
+
+-- "Unused store of every queue, time queue and channels too, is 0."
+unfoldable pub UnusedStore : Kernel → Type 0
+UnusedStore k = Tidy (k .places) × Tidy (k .time) × Tidy (k .posted)
+
+-- "A sleeping thread, or a waiting one with timeout above 0, also has one place in the time queue, which holds no other places."
+unfoldable pub TimePlaces : Kernel → Type 0
+TimePlaces k = (t : ℕ) → count t (timeQueue k) ≡ one (isTimed (thread k t))
+
+-- "A waiting queue is ordered by priority, then by arrival." Of every home: in a ready list the priorities are equal.
+unfoldable pub WaitingOrder : Kernel → Type 0
+WaitingOrder k = (home : ℕ) → Ordered (λ t. thread k t .priority) (line k home)
+
+-- "The time queue is ordered by ticks left, then by entry."
+unfoldable pub TimeOrder : Kernel → Type 0
+TimeOrder k = Ordered (λ t. thread k t .ticks) (timeQueue k)
+
+-- "A semaphore with waiters has count 0."
+unfoldable pub WaitersAtZero : Kernel → Type 0
+WaitersAtZero k = (i : ℕ) → i < 16 → (semaphoreQueue k i ≡ [] → ⊥) → semaphore k i .count ≡ 0
+
+-- "A count is at most its maximum."
+unfoldable pub CountsAtMost : Kernel → Type 0
+CountsAtMost k = (i : ℕ) → semaphore k i .count ≤ semaphore k i .maximum
+
+-- "A TRUE event has no waiters."
+unfoldable pub TrueWithoutWaiters : Kernel → Type 0
+TrueWithoutWaiters k = (i : ℕ) → i < 8 → isTrue (k .bits) (event k i) ≡ true → eventQueue k i ≡ []
+
+-- "A thread waiting for messages has none queued on its masked channels."
+unfoldable pub NoneAwaited : Kernel → Type 0
+NoneAwaited k = (t c mask : ℕ) → thread k t .condition ≡ ForMessage mask → masks mask c ≡ true → channel k t c ≡ []
+
+-- "Each live message has a live owner,"
+unfoldable pub LiveOwners : Kernel → Type 0
+LiveOwners k = (m : ℕ) → message k m .live ≡ true → thread k (message k m .owner) .live ≡ true
+
+-- "and is either held by it, with no place in any channel, or queued with one place on one of its channels, oldest first."
+unfoldable pub ChannelPlaces : Kernel → Type 0
+ChannelPlaces k = (m t c : ℕ) → 0 < c → count m (channel k t c) ≡ one (isQueued (message k m) && onChannel t c (message k m))
+
+-- "Channels, those of a thread that isn't live too, hold no other places."
+unfoldable pub NoOtherPosts : Kernel → Type 0
+NoOtherPosts k = (m : ℕ) → isQueued (message k m) ≡ false → count m (items (k .posted)) ≡ 0
+
+-- "Every field lies in its size." Counts, times, types, sizes, addresses and levels have theirs from their types.
+unfoldable pub PrioritySizes : Kernel → Type 0
+PrioritySizes k =
+    (t : ℕ) → thread k t .live ≡ true
+    → (1 ≤ thread k t .priority) × (thread k t .priority ≤ 30) × (1 ≤ thread k t .first) × (thread k t .first ≤ 30)
+
+unfoldable pub MaskSizes : Kernel → Type 0
+MaskSizes k = (t mask : ℕ) → thread k t .condition ≡ ForMessage mask → (1 ≤ mask) × (mask ≤ 32767)
+
+unfoldable pub ReplySizes : Kernel → Type 0
+ReplySizes k = (t : ℕ) → (thread k t .reply < 64) ⊎ (thread k t .reply ≡ 255)
+
+unfoldable pub MaximumSizes : Kernel → Type 0
+MaximumSizes k = (i : ℕ) → semaphore k i .live ≡ true → 1 ≤ semaphore k i .maximum
+
+unfoldable pub MessageSizes : Kernel → Type 0
+MessageSizes k = (m : ℕ) → (message k m .sender < 32) × (message k m .channel ≤ 15)
+
+-- "Ticks left are above 0 for a thread in the time queue and a periodic semaphore."
+unfoldable pub TicksLeft : Kernel → Type 0
+TicksLeft k = (t : ℕ) → isTimed (thread k t) ≡ true → 0 < thread k t .ticks
+
+unfoldable pub PeriodicTicks : Kernel → Type 0
+PeriodicTicks k = (i : ℕ) → 0 < semaphore k i .period → 0 < semaphore k i .ticks
+
+-- "All fields of a record that isn't live are 0 (ready and none count as 0),"
+unfoldable pub DeadThreads : Kernel → Type 0
+DeadThreads k = (t : ℕ) → thread k t .live ≡ false → thread k t ≡ noThread
+
+unfoldable pub DeadSemaphores : Kernel → Type 0
+DeadSemaphores k = (i : ℕ) → semaphore k i .live ≡ false → semaphore k i ≡ noSemaphore
+
+unfoldable pub DeadMessages : Kernel → Type 0
+DeadMessages k = (m : ℕ) → message k m .live ≡ false → message k m ≡ noMessage
+
+-- "as are other threads' ticks left, and ticks and period of a semaphore that isn't periodic."
+unfoldable pub OtherTicks : Kernel → Type 0
+OtherTicks k = (t : ℕ) → isTimed (thread k t) ≡ false → thread k t .ticks ≡ 0
+
+unfoldable pub UnperiodicTicks : Kernel → Type 0
+UnperiodicTicks k = (i : ℕ) → semaphore k i .period ≡ 0 → semaphore k i .ticks ≡ 0
+
+-- "Levels both 0: the running thread is the first ready one, or none."
+unfoldable pub FirstRuns : Kernel → Type 0
+FirstRuns k = k .unscheduled + k .critical ≡ 0 → k .runner ≡ firstReady k
+
+-- "A level above 0: some ready thread runs."
+unfoldable pub SomeRuns : Kernel → Type 0
+SomeRuns k = 0 < k .unscheduled + k .critical → isReady (thread k (k .runner)) ≡ true
+
+-- How the lists lie in their store: in `places` by home, in `posted` by owner and channel. Not document 01's, ours.
+unfoldable pub StoreOrder : Kernel → Type 0
+StoreOrder k = Ordered (λ t. homeOf (thread k t)) (items (k .places)) × Ordered (λ m. streamOf (message k m)) (items (k .posted))
+
+-- The state rules.
+pub record Rules (k : Kernel) : Type 0 where
+  pub readyPlaces : ReadyPlaces k
+  pub semaphorePlaces : SemaphorePlaces k
+  pub eventPlaces : EventPlaces k
+  pub liveSemaphores : LiveSemaphores k
+  pub liveEvents : LiveEvents k
+  pub noOtherPlaces : NoOtherPlaces k
+  pub unusedStore : UnusedStore k
+  pub timePlaces : TimePlaces k
+  pub waitingOrder : WaitingOrder k
+  pub timeOrder : TimeOrder k
+  pub waitersAtZero : WaitersAtZero k
+  pub countsAtMost : CountsAtMost k
+  pub trueWithoutWaiters : TrueWithoutWaiters k
+  pub noneAwaited : NoneAwaited k
+  pub liveOwners : LiveOwners k
+  pub channelPlaces : ChannelPlaces k
+  pub noOtherPosts : NoOtherPosts k
+  pub prioritySizes : PrioritySizes k
+  pub maskSizes : MaskSizes k
+  pub replySizes : ReplySizes k
+  pub maximumSizes : MaximumSizes k
+  pub messageSizes : MessageSizes k
+  pub ticksLeft : TicksLeft k
+  pub periodicTicks : PeriodicTicks k
+  pub deadThreads : DeadThreads k
+  pub deadSemaphores : DeadSemaphores k
+  pub deadMessages : DeadMessages k
+  pub otherTicks : OtherTicks k
+  pub unperiodicTicks : UnperiodicTicks k
+  pub firstRuns : FirstRuns k
+  pub someRuns : SomeRuns k
+  pub storeOrder : StoreOrder k

@@ -1,0 +1,160 @@
+-- The state rules as one computed test: record by record, table by table.
+use Prim.Native.Nat.{ℕ, _+_}
+use mathlib.Core.Bool.{Bool, true, false, not, cond, _&&_, _||_}
+use mathlib.Core.List.{List, [], _∷_}
+use lib.Dec.{eqb, ltb, leb}
+use lib.ListN.{getD}
+use Rattle.base_queue.specs.Lists.{everyFrom}
+use Rattle.base_queue.specs.Queues.{items, isTidy}
+use Rattle.base_queue.specs.Tables.{isPlaced, isOrderedFrom}
+use Rattle.spec_kernel.specs.declared.records.Condition.{Condition}
+use Rattle.spec_kernel.specs.declared.records.Condition.the-variants.{Ready, Asleep, ForSemaphore, ForEvent, ForMessage}
+use Rattle.spec_kernel.specs.declared.records.Wake.{Wake}
+use Rattle.spec_kernel.specs.declared.records.Thread.{Thread}
+use Rattle.spec_kernel.specs.declared.records.Semaphore.{Semaphore}
+use Rattle.spec_kernel.specs.declared.records.Event.{Event}
+use Rattle.spec_kernel.specs.declared.records.Message.{Message}
+use Rattle.spec_kernel.specs.declared.records.Kernel.{Kernel}
+use Rattle.spec_kernel.specs.Records.{thread, noThread, noSemaphore, noEvent, noMessage}
+use Rattle.spec_kernel.specs.Conditions.{readyFor, isReady, awaits}
+use Rattle.spec_kernel.specs.Places.{hasHome, rankOf, isQueued, streamOf}
+use Rattle.spec_kernel.specs.Truth.{isTrue}
+use Rattle.spec_kernel.specs.Runner.{chosen}
+
+-- all of a list
+abbrev pub allOf : List Bool → Bool
+allOf [] = true
+allOf (b ∷ l) = let r = allOf l in b && r
+
+abbrev pub noWake : Wake → Bool
+noWake Wake.None = true
+noWake Wake.Met = false
+noWake (Wake.TimedOut object) = false
+
+-- all fields are 0
+unfoldable pub isNoThread : Thread → Bool
+isNoThread r = allOf (eqb (r .priority) 0 ∷ eqb (r .first) 0 ∷ readyFor (r .condition) ∷ eqb (r .ticks) 0 ∷ noWake (r .wake) ∷ eqb (r .reply) 0 ∷ [])
+
+unfoldable pub isNoSemaphore : Semaphore → Bool
+isNoSemaphore r = allOf (eqb (r .count) 0 ∷ eqb (r .maximum) 0 ∷ eqb (r .ticks) 0 ∷ eqb (r .period) 0 ∷ [])
+
+unfoldable pub isNoMessage : Message → Bool
+isNoMessage r = allOf (eqb (r .owner) 0 ∷ eqb (r .sender) 0 ∷ eqb (r .kind) 0 ∷ eqb (r .size) 0 ∷ eqb (r .address) 0 ∷ eqb (r .channel) 0 ∷ [])
+
+-- "that live object", and "a semaphore with waiters has count 0"
+abbrev pub semaphoreWaited : List Semaphore → ℕ → Bool
+semaphoreWaited semaphores i = getD semaphores i noSemaphore .live && eqb (getD semaphores i noSemaphore .count) 0
+
+-- "a TRUE event has no waiters"
+abbrev pub eventWaited : List Event → ℕ → ℕ → Bool
+eventWaited events bits i = ltb i 8 && not (isTrue bits (getD events i noEvent))
+
+-- a live thread's condition: its ticks left, and the object that it waits for
+unfoldable pub conditionKept : List Semaphore → List Event → ℕ → ℕ → Condition → Bool
+conditionKept semaphores events bits ticks Ready = eqb ticks 0
+conditionKept semaphores events bits ticks Asleep = ltb 0 ticks
+conditionKept semaphores events bits ticks (ForSemaphore i) = semaphoreWaited semaphores i
+conditionKept semaphores events bits ticks (ForEvent i) = eventWaited events bits i
+conditionKept semaphores events bits ticks (ForMessage mask) = ltb 0 mask && leb mask 32767
+
+unfoldable pub liveThreadKept : List Semaphore → List Event → ℕ → Thread → Bool
+liveThreadKept semaphores events bits r =
+    allOf
+    (ltb 0 (r .priority)
+    ∷ leb (r .priority) 30
+    ∷ ltb 0 (r .first)
+    ∷ leb (r .first) 30
+    ∷ (ltb (r .reply) 64 || eqb (r .reply) 255)
+    ∷ conditionKept semaphores events bits (r .ticks) (r .condition)
+    ∷ [])
+
+unfoldable pub threadKept : List Semaphore → List Event → ℕ → Thread → Bool
+threadKept semaphores events bits r = cond (r .live) (liveThreadKept semaphores events bits r) (isNoThread r)
+
+-- ticks left are above 0 exactly where the semaphore is periodic
+unfoldable pub liveSemaphoreKept : Semaphore → Bool
+liveSemaphoreKept r =
+    allOf
+    (ltb 0 (r .maximum)
+    ∷ leb (r .count) (r .maximum)
+    ∷ cond (eqb (r .period) 0) (eqb (r .ticks) 0) (ltb 0 (r .ticks))
+    ∷ [])
+
+unfoldable pub semaphoreKept : Semaphore → Bool
+semaphoreKept r = cond (r .live) (liveSemaphoreKept r) (isNoSemaphore r)
+
+-- the owner is live and does not wait for messages on the channel that the message stands on
+unfoldable pub liveMessageKept : List Thread → Message → Bool
+liveMessageKept threads r =
+    allOf
+    (getD threads (r .owner) noThread .live
+    ∷ ltb (r .sender) 32
+    ∷ leb (r .channel) 15
+    ∷ not (awaits (getD threads (r .owner) noThread .condition) (r .channel))
+    ∷ [])
+
+unfoldable pub messageKept : List Thread → Message → Bool
+messageKept threads r = cond (r .live) (liveMessageKept threads r) (isNoMessage r)
+
+unfoldable pub threadsKept : Kernel → Bool
+threadsKept k = everyFrom (λ _ r. threadKept (k .semaphores) (k .events) (k .bits) r) 0 (k .threads)
+
+unfoldable pub semaphoresKept : Kernel → Bool
+semaphoresKept k = everyFrom (λ _ r. semaphoreKept r) 0 (k .semaphores)
+
+unfoldable pub messagesKept : Kernel → Bool
+messagesKept k = everyFrom (λ _ r. messageKept (k .threads) r) 0 (k .messages)
+
+-- ---- the tables: each that belongs stands there once and nobody else, in order, the unused store 0
+abbrev pub isTicking : Thread → Bool
+isTicking r = ltb 0 (r .ticks)
+
+unfoldable pub inRank : List Thread → List ℕ → Bool
+inRank threads l = isOrderedFrom 0 (λ t. rankOf (getD threads t noThread)) l
+
+unfoldable pub inTime : List Thread → List ℕ → Bool
+inTime threads l = isOrderedFrom 0 (λ t. getD threads t noThread .ticks) l
+
+unfoldable pub inStream : List Message → List ℕ → Bool
+inStream messages l = isOrderedFrom 0 (λ m. streamOf (getD messages m noMessage)) l
+
+unfoldable pub placesKept : Kernel → Bool
+placesKept k =
+    allOf
+    (isTidy (k .places)
+    ∷ isPlaced hasHome (k .threads) (items (k .places))
+    ∷ inRank (k .threads) (items (k .places))
+    ∷ [])
+
+unfoldable pub timeKept : Kernel → Bool
+timeKept k =
+    allOf
+    (isTidy (k .time)
+    ∷ isPlaced isTicking (k .threads) (items (k .time))
+    ∷ inTime (k .threads) (items (k .time))
+    ∷ [])
+
+unfoldable pub postedKept : Kernel → Bool
+postedKept k =
+    allOf
+    (isTidy (k .posted)
+    ∷ isPlaced isQueued (k .messages) (items (k .posted))
+    ∷ inStream (k .messages) (items (k .posted))
+    ∷ [])
+
+-- the first ready one, or with a level held some ready one
+unfoldable pub runnerKept : Kernel → Bool
+runnerKept k = cond (eqb (k .unscheduled + k .critical) 0) (eqb (k .runner) (chosen k)) (isReady (thread k (k .runner)))
+
+-- The state rules hold.
+unfoldable pub keepsRules : Kernel → Bool
+keepsRules k =
+    allOf
+    (placesKept k
+    ∷ timeKept k
+    ∷ postedKept k
+    ∷ threadsKept k
+    ∷ semaphoresKept k
+    ∷ messagesKept k
+    ∷ runnerKept k
+    ∷ [])

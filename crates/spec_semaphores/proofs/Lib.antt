@@ -1,0 +1,2 @@
+pub mod LawsOfSemaphores
+pub mod LawsOfMaking

@@ -1,0 +1,77 @@
+-- Blocking: the caller leaves its ready list and joins its queue.
+use mathlib.Core.Path.{_≡_, refl, sym, ap, _∙_}
+use mathlib.Core.Bool.{Bool}
+use Prim.Native.Nat.{ℕ, _≤_, _<_}
+use native.Mathlib.Omega.{arith}
+use lib.Dec.{ltb}
+use Rattle.base_queue.specs.Lists.{without, behind}
+use Rattle.base_queue.specs.Queues.{items}
+use Rattle.spec_kernel.specs.declared.records.Condition.{Condition}
+use Rattle.spec_kernel.specs.declared.records.Condition.the-variants.{Asleep}
+use Rattle.spec_kernel.specs.declared.records.Kernel.{Kernel}
+use Rattle.spec_kernel.specs.Records.{thread}
+use Rattle.spec_kernel.specs.Places.{nowhere, homeFor, readyHome, line, readyList, timeQueue}
+use Rattle.spec_moves.specs.Standing.{threadsOf, Standing}
+use Rattle.spec_moves.proofs.Threads.{ready-home, relocate-same, relocate-other, relocate-leaves}
+use Rattle.spec_calls.specs.declared.call.Call.{Call}
+use Rattle.spec_threads.specs.Threads.{block, sleep}
+use Rattle.spec_kernel.specs.WordsOfLaws.{Runnable, stopped, OnlyThreads, OtherThreads}
+use Rattle.spec_threads.proofs.LawsOfHomes.{place-only, live-home, ready-live, live-id, line-without, time-stays, time-joins, line-joins}
+
+-- u comes after t in a queue: it has a lower priority, which is a greater number
+abbrev pub isLower : Kernel → ℕ → ℕ → Bool
+isLower k t u = ltb (thread k t .priority) (thread k u .priority)
+
+-- u comes after who has so many ticks left in the time queue: it has more
+abbrev pub isLater : Kernel → ℕ → ℕ → Bool
+isLater k ticks u = ltb ticks (thread k u .ticks)
+
+-- The caller t of k has stopped in k′: it joins the queue of home h, or none where h is nowhere.
+pub record Blocked (condition : Condition) (timeout h t : ℕ) (k k′ : Kernel) : Type 0 where
+  -- "The thread leaves the ready list and joins its queue behind equal priorities."
+  pub left : readyList k′ (thread k t .priority) ≡ without t (readyList k (thread k t .priority))
+  pub joined : (h ≡ nowhere → ⊥) → line k′ h ≡ behind (isLower k t) t (line k h)
+  -- every other list and queue is as it was
+  pub lists : (n : ℕ) → (n ≡ readyHome (thread k t .priority) → ⊥) → (n ≡ h → ⊥) → line k′ n ≡ line k n
+  -- "Timeout 0 waits for ever": the time queue stays; else it joins behind those that wake before it
+  pub forever : timeout ≡ 0 → timeQueue k′ ≡ timeQueue k
+  pub timed : 0 < timeout → timeQueue k′ ≡ behind (isLater k timeout) t (timeQueue k)
+  -- "one that blocks or sleeps, has wake reason none and reply 255"
+  pub itself : thread k′ t ≡ stopped condition timeout (thread k t)
+  pub others : OtherThreads t k k′
+
+module _ (k : Kernel) (S : Standing (threadsOf k)) (R : Runnable (thread k (k .runner))) (condition : Condition) (timeout : ℕ) where
+  pub block-blocks : {h : ℕ} → homeFor condition (thread k (k .runner) .priority) ≡ h → 256 ≤ h
+      → Blocked condition timeout h (k .runner) k (block condition timeout k)
+  unfolding block
+  block-blocks {h} e b =
+      let t = k .runner in
+      let r = stopped condition timeout (thread k t) in
+      let l = ready-live (thread k t) (R .ready) in
+      let id = live-id S t l in
+      let was = ready-home (thread k t) (R .ready) in
+      let is = live-home r l ∙ e in
+      record {
+        left = relocate-leaves (threadsOf k) t r S id (λ z. omega (arith, R .byte));
+        joined = λ ne. line-joins S t id r is ne ∙ ap (behind (isLower k t) t) (line-without S t h (λ z. omega (arith, R .byte)));
+        lists = λ n a b. relocate-leaves (threadsOf k) t r S id (λ z. b (z ∙ is)) ∙ line-without S t n (λ z. a (sym z ∙ was));
+        forever = λ z. ap items (time-stays (threadsOf k) t r (R .untimed ∙ sym z));
+        timed = λ z. time-joins S t id r (R .untimed) z;
+        itself = relocate-same (threadsOf k) t r (S .count) id;
+        others = λ u ne. relocate-other (threadsOf k) t r ne;
+      }
+
+-- and nothing but threads changes
+pub block-only : (condition : Condition) (timeout : ℕ) (k : Kernel) → OnlyThreads k (block condition timeout k)
+unfolding block
+block-only condition timeout k = place-only (k .runner) (stopped condition timeout (thread k (k .runner))) k
+
+-- kind 7: the caller sleeps, in no queue but the time queue
+module _ (k : Kernel) (c : Call) where
+  pub sleep-blocks : Standing (threadsOf k) → Runnable (thread k (k .runner)) → Blocked Asleep (c .c) nowhere (k .runner) k (sleep k c)
+  unfolding sleep
+  sleep-blocks S R = block-blocks k S R Asleep (c .c) refl (omega arith)
+
+  pub sleep-only : OnlyThreads k (sleep k c)
+  unfolding sleep
+  sleep-only = block-only Asleep (c .c) k

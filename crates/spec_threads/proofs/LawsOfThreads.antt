@@ -1,0 +1,191 @@
+-- Threads: who runs, create, yield and priorities.
+use mathlib.Core.Path.{_≡_, refl, sym, ap, _∙_}
+use mathlib.Core.Bool.{Bool, true, false, false≢true}
+use mathlib.Core.List.{List, [], _∷_, _++_}
+use Prim.Native.Nat.{ℕ, zero, suc, _+_, _<_}
+use native.Mathlib.Nat.{mod-eq-of-lt}
+use native.Mathlib.Omega.{arith}
+use lib.Dec.{eqb, ltb}
+use lib.ListN.{length, getD}
+use borrow.Author.Tests.{eqb-true, eqb-false, ne-eqb}
+use borrow.Table.Steps.{cases}
+use Rattle.base_queue.specs.Lists.{without, behind}
+use Rattle.base_queue.specs.Queues.{items}
+use Rattle.spec_kernel.specs.declared.records.Condition.{Condition}
+use Rattle.spec_kernel.specs.declared.records.Condition.the-variants.{Ready, Asleep, ForSemaphore, ForEvent, ForMessage}
+use Rattle.spec_kernel.specs.declared.records.Kernel.{Kernel}
+use Rattle.spec_kernel.specs.Records.{thread, noThread}
+use Rattle.spec_kernel.specs.Conditions.{isReady, readyFor}
+use Rattle.spec_kernel.specs.Places.{nowhere, homeFor, homeOf, readyHome, line, readyList, semaphoreQueue, eventQueue, timeQueue}
+use Rattle.spec_moves.specs.Standing.{threadsOf, Standing}
+use Rattle.spec_moves.proofs.Threads.{ready-home, relocate-same, relocate-other, relocate-last, relocate-leaves}
+use Rattle.spec_kernel.specs.Free.{lowestFree, freeThread}
+use Rattle.spec_calls.specs.declared.call.Call.{Call}
+use Rattle.spec_moves.specs.States.{place, scheduled}
+use Rattle.spec_threads.specs.Threads.{createThread, setPriority, resetPriority, yielded}
+use Rattle.spec_kernel.specs.WordsOfLaws.{Runnable, prioritized, newborn, OnlyThreads, OnlyRunner, OtherThreads}
+use Rattle.spec_threads.proofs.LawsOfHomes.{place-only, live-home, ready-live, live-id, line-without, line-nowhere, time-stays, line-joins}
+
+-- ---- who runs
+-- "A preempted thread keeps its place": to choose moves nobody
+pub scheduled-only : (k : Kernel) → OnlyRunner k (scheduled k)
+unfolding scheduled
+scheduled-only k = record {
+  threads = record { records = refl; places = refl; time = refl };
+  semaphores = refl;
+  events = record { records = refl; bits = refl };
+  messages = record { records = refl; posted = refl };
+  uptime = refl;
+  unscheduled = refl;
+  critical = refl;
+}
+
+-- in a region nobody is chosen
+pub scheduled-region : (k : Kernel) → 0 < k .unscheduled + k .critical → scheduled k .runner ≡ k .runner
+unfolding scheduled
+scheduled-region k b = rw (ne-eqb (k .unscheduled + k .critical) 0 (λ z. omega arith))
+
+-- ---- create
+-- Thread t is new in k′, with this priority.
+pub record Created (priority t : ℕ) (k k′ : Kernel) : Type 0 where
+  -- "A create takes the lowest free id."
+  pub free : thread k t .live ≡ false
+  pub lowest : (u : ℕ) → u < t → thread k u .live ≡ true
+  -- it stands last in its list, and "A preempted thread keeps its place": every other list and queue is as it was
+  pub last : readyList k′ priority ≡ readyList k priority ++ t ∷ []
+  pub lists : (h : ℕ) → (h ≡ readyHome priority → ⊥) → line k′ h ≡ line k h
+  pub time : timeQueue k′ ≡ timeQueue k
+  -- "A new thread .. has wake reason none and reply 255"; nobody else's record changes
+  pub itself : thread k′ t ≡ newborn priority
+  pub others : OtherThreads t k k′
+
+-- an id that isn't 255 is that of the first record that isn't live
+module _ {A : Type 0} (live : A → Bool) (d : A) where
+  free-from : (n : ℕ) (l : List A) → (lowestFree live n l ≡ 255 → ⊥)
+      → (i : ℕ) × (lowestFree live n l ≡ n + i) × (i < length l) × (live (getD l i d) ≡ false) × ((j : ℕ) → j < i → live (getD l j d) ≡ true)
+  free-from n [] h = absurd (h refl)
+  free-from n (r ∷ l) h =
+      cases (live r)
+      (λ e. let (i, z, b, f, all) = free-from (suc n) l (rw e at h) in
+      (suc i, rw e (omega arith), omega arith, f, λ j. elim j [ zero ↦ λ _. e | suc m ↦ λ b. all m (omega arith) ]))
+      (λ e. (0, rw e (omega arith), omega arith, e, λ j b. absurd (omega arith)))
+
+module _ (k : Kernel) (c : Call) where
+  pub create-only : OnlyThreads k (createThread k c)
+  unfolding createThread
+  create-only = place-only (freeThread k) (newborn (c .a)) k
+
+  module _ (S : Standing (threadsOf k)) (byte : c .a < 256) (room : freeThread k ≡ 255 → ⊥) (clean : thread k (freeThread k) .ticks ≡ 0) where
+    pub create-creates : Created (c .a) (freeThread k) k (createThread k c)
+    unfolding createThread homeOf
+    create-creates =
+        let t = freeThread k in
+        let r = newborn (c .a) in
+        let (i, z, b, free, lowest) = free-from (λ r. r .live) noThread 0 (k .threads) room in
+        let e : t ≡ i = omega arith in
+        let id : t < 32 = omega (arith, S .count) in
+        let none : homeOf (thread k t) ≡ nowhere = rw (e, free) in
+        record {
+          free = rw e free;
+          lowest = λ u b. lowest u (omega arith);
+          last = relocate-last (threadsOf k) t r S id refl byte ∙ rw (line-nowhere S t (c .a) none);
+          lists = λ h ne. relocate-leaves (threadsOf k) t r S id ne ∙ line-nowhere S t h none;
+          time = ap items (time-stays (threadsOf k) t r clean);
+          itself = relocate-same (threadsOf k) t r (S .count) id;
+          others = λ u ne. relocate-other (threadsOf k) t r ne;
+        }
+
+-- ---- yield
+-- Yield puts the caller t last in its list.
+pub record Yielded (t : ℕ) (k k′ : Kernel) : Type 0 where
+  pub last : readyList k′ (thread k t .priority) ≡ without t (readyList k (thread k t .priority)) ++ t ∷ []
+  -- nobody else moves, and no record changes
+  pub lists : (h : ℕ) → (h ≡ readyHome (thread k t .priority) → ⊥) → line k′ h ≡ line k h
+  pub time : timeQueue k′ ≡ timeQueue k
+  pub records : (u : ℕ) → thread k′ u ≡ thread k u
+
+module _ (k : Kernel) (c : Call) where
+  pub yield-only : OnlyThreads k (yielded k c)
+  unfolding yielded
+  yield-only = place-only (k .runner) (thread k (k .runner)) k
+
+  pub yield-yields : Standing (threadsOf k) → Runnable (thread k (k .runner)) → Yielded (k .runner) k (yielded k c)
+  unfolding yielded
+  yield-yields S R =
+      let t = k .runner in
+      let r = thread k t in
+      let id = live-id S t (ready-live r (R .ready)) in
+      let home = ready-home r (R .ready) in
+      record {
+        last = relocate-last (threadsOf k) t r S id home (R .byte);
+        lists = λ h ne. relocate-leaves (threadsOf k) t r S id (λ z. ne (z ∙ home)) ∙ line-without S t h (λ z. ne (sym z ∙ home));
+        time = ap items (time-stays (threadsOf k) t r refl);
+        records = λ u.
+            cases (eqb u t) (λ e. rw (eqb-true u t e) (relocate-same (threadsOf k) t r (S .count) id))
+            (λ e. relocate-other (threadsOf k) t r (eqb-false u t e));
+      }
+
+-- ---- priorities
+-- Thread a has the priority `new` in k′. "Set or reset priority puts a ready thread last in its new list and a waiter behind
+-- equals, even where the priority is the same."
+pub record Reprioritized (new a : ℕ) (k k′ : Kernel) : Type 0 where
+  -- a ready thread is last in its new list and out of its old one, where the others keep their order
+  pub last : isReady (thread k a) ≡ true → readyList k′ new ≡ without a (readyList k new) ++ a ∷ []
+  pub lists : isReady (thread k a) ≡ true → (h : ℕ) → (h ≡ readyHome new → ⊥) → line k′ h ≡ without a (line k h)
+  -- a waiter stands in its queue behind its new equals, before those of a lower priority
+  pub semaphore : (i : ℕ) → i < 256 → thread k a .condition ≡ ForSemaphore i
+      → semaphoreQueue k′ i ≡ behind (λ u. ltb new (thread k u .priority)) a (without a (semaphoreQueue k i))
+  pub event : (i : ℕ) → i < 256 → thread k a .condition ≡ ForEvent i
+      → eventQueue k′ i ≡ behind (λ u. ltb new (thread k u .priority)) a (without a (eventQueue k i))
+  -- and nobody else moves; who sleeps or waits for a message has no home to move in
+  pub elsewhere : isReady (thread k a) ≡ false → (h : ℕ) → (h ≡ homeFor (thread k a .condition) new → ⊥) → line k′ h ≡ line k h
+  pub time : timeQueue k′ ≡ timeQueue k
+  -- nothing else of it changes, and nobody else's record does
+  pub itself : thread k′ a ≡ prioritized new (thread k a)
+  pub others : OtherThreads a k k′
+
+-- the home of who isn't ready is the same for every priority
+unmoved : (c : Condition) (p q : ℕ) → readyFor c ≡ false → homeFor c p ≡ homeFor c q
+unmoved Ready p q e = absurd (false≢true (sym e))
+unmoved Asleep p q e = refl
+unmoved (ForSemaphore i) p q e = refl
+unmoved (ForEvent i) p q e = refl
+unmoved (ForMessage mask) p q e = refl
+
+module _ (k : Kernel) (S : Standing (threadsOf k)) (a new : ℕ) (l : thread k a .live ≡ true) (b : new < 256) where
+  reprioritized : Reprioritized new a k (place a (prioritized new (thread k a)) k)
+  reprioritized =
+      let r = prioritized new (thread k a) in
+      let id = live-id S a l in
+      let home = live-home r l in
+      let stays : isReady (thread k a) ≡ false → homeOf (thread k a) ≡ homeFor (thread k a .condition) new =
+      λ e. live-home (thread k a) l ∙ unmoved (thread k a .condition) _ new (rw l at e) in
+      record {
+        last = λ e. relocate-last (threadsOf k) a r S id (ready-home r e) b;
+        lists = λ e h ne. relocate-leaves (threadsOf k) a r S id (λ z. ne (z ∙ ready-home r e));
+        semaphore = λ i s e. line-joins S a id r (home ∙ rw e) (λ z. omega arith);
+        event = λ i s e. line-joins S a id r (home ∙ rw e) (λ z. omega arith);
+        elsewhere = λ e h ne. relocate-leaves (threadsOf k) a r S id (λ z. ne (z ∙ home)) ∙ line-without S a h (λ z. ne (sym z ∙ stays e));
+        time = ap items (time-stays (threadsOf k) a r refl);
+        itself = relocate-same (threadsOf k) a r (S .count) id;
+        others = λ u ne. relocate-other (threadsOf k) a r ne;
+      }
+
+module _ (k : Kernel) (c : Call) where
+  pub set-priority-only : OnlyThreads k (setPriority k c)
+  unfolding setPriority
+  set-priority-only = place-only (c .a) _ k
+
+  pub reset-priority-only : OnlyThreads k (resetPriority k c)
+  unfolding resetPriority
+  reset-priority-only = place-only (c .a) _ k
+
+  module _ (S : Standing (threadsOf k)) (l : thread k (c .a) .live ≡ true) where
+    pub set-priority-sets : c .b < 256 → Reprioritized (c .b) (c .a) k (setPriority k c)
+    unfolding setPriority
+    set-priority-sets b = rw (mod-eq-of-lt b) (reprioritized k S (c .a) (c .b) l b)
+
+    -- "reset uses the first priority"
+    pub reset-priority-sets : thread k (c .a) .first < 256 → Reprioritized (thread k (c .a) .first) (c .a) k (resetPriority k c)
+    unfolding resetPriority
+    reset-priority-sets b = reprioritized k S (c .a) (thread k (c .a) .first) l b

@@ -1,0 +1,1 @@
+// What the calls on threads do: blocking and waking, create and destroy, priorities, yield and sleep; and the laws of it.

@@ -1,0 +1,76 @@
+-- The tick: uptime, time-outs in time queue order, then periodic semaphores in id order.
+use Prim.Native.Nat.{ℕ, zero, suc, _+_, _-_}
+use mathlib.Core.Bool.{cond}
+use mathlib.Core.List.{List, map}
+use lib.Dec.{eqb}
+use Rattle.base_queue.specs.Lists.{keep}
+use Rattle.base_queue.specs.Queues.{items}
+use Rattle.spec_kernel.specs.declared.records.Condition.{Condition}
+use Rattle.spec_kernel.specs.declared.records.Condition.the-variants.{Ready, Asleep, ForSemaphore, ForEvent, ForMessage}
+use Rattle.spec_kernel.specs.declared.records.Object.{Object}
+use Rattle.spec_kernel.specs.declared.records.Wake.{Wake}
+use Rattle.spec_kernel.specs.declared.records.Thread.{Thread}
+use Rattle.spec_kernel.specs.declared.records.Kernel.{Kernel}
+use Rattle.spec_moves.specs.declared.parts.Threads.{Threads}
+use Rattle.spec_kernel.specs.Records.{semaphore}
+use Rattle.spec_moves.specs.Moves.{relocate, recordIn}
+use Rattle.spec_moves.specs.Standing.{threadsOf}
+use Rattle.spec_calls.specs.declared.call.Call.{Call}
+use Rattle.spec_moves.specs.States.{withThreads, withSemaphore, withUptime, each}
+use Rattle.spec_threads.specs.Threads.{awake}
+use Rattle.spec_semaphores.specs.Semaphores.{withTicks, post}
+
+-- "Uptime goes up by one and wraps to 0."
+abbrev pub later : ℕ → ℕ
+later uptime = cond (eqb uptime 4294967295) 0 (uptime + 1)
+
+-- "a sleeper as met, a waiter as timed out", with its object kind
+abbrev pub reasonAt : Condition → Wake
+reasonAt Ready = Wake.Met
+reasonAt Asleep = Wake.Met
+reasonAt (ForSemaphore i) = Wake.TimedOut Object.Semaphore
+reasonAt (ForEvent i) = Wake.TimedOut Object.Event
+reasonAt (ForMessage mask) = Wake.TimedOut Object.Message
+
+unfoldable pub timeUp : ℕ → Threads → Threads
+timeUp t p = relocate t (awake (reasonAt (recordIn p t .condition)) (recordIn p t .reply) (recordIn p t)) p
+
+-- those whose last tick this is, in time queue order
+unfoldable pub due : Threads → List ℕ
+due p = keep (λ t. eqb (recordIn p t .ticks) 1) (items (p .time))
+
+abbrev pub aged : Thread → Thread
+aged r =
+    record {
+      live = r .live;
+      priority = r .priority;
+      first = r .first;
+      condition = r .condition;
+      ticks = r .ticks - 1;
+      wake = r .wake;
+      reply = r .reply;
+    }
+
+unfoldable pub ageAll : Threads → Threads
+ageAll p = record { records = map aged (p .records); places = p .places; time = p .time }
+
+-- "Each timed thread loses a tick; those at 0 wake in time queue order." Those that would come to 0 wake first.
+unfoldable pub timePasses : Threads → Threads
+timePasses p = ageAll (each timeUp (due p) p)
+
+-- "each periodic semaphore .. loses a tick, and at 0 is posted and set to its period"
+unfoldable pub pulse : ℕ → Kernel → Kernel
+pulse i k =
+    cond (eqb (semaphore k i .period) 0) k
+    (cond (eqb (semaphore k i .ticks) 1)
+    (withSemaphore i (withTicks (semaphore k i .period) (semaphore k i .period) (semaphore (post i k) i)) (post i k))
+    (withSemaphore i (withTicks (semaphore k i .ticks - 1) (semaphore k i .period) (semaphore k i)) k))
+
+-- n semaphores from i on, in id order
+unfoldable pub pulseFrom : ℕ → ℕ → Kernel → Kernel
+pulseFrom i zero k = k
+pulseFrom i (suc n) k = pulseFrom (suc i) n (pulse i k)
+
+-- kind 1
+unfoldable pub tick : Kernel → Call → Kernel
+tick k c = pulseFrom 0 16 (withThreads (timePasses (threadsOf k)) (withUptime (later (k .uptime)) k))

@@ -1,4 +1,0 @@
-pub mod Returned
-pub mod Tallies
-pub mod Entries
-pub mod Copies

@@ -1,0 +1,4 @@
+pub mod Copies
+pub mod Returned
+pub mod Tallies
+pub mod Entries

@@ -1,0 +1,66 @@
+use Prim.Native.Nat.{_≤_, _-_}
+use lib.ListN.{length}
+use borrow.Author.Needs.{needs}
+use Rattle.try_harmed.proofs.all.Statement.{statement}
+use Rattle.try_harmed.proofs.all.Tie as tie
+
+abbrev Inv-loop : tie.InvT-loop
+Inv-loop s log₀ copy₀ run₀ at₀ log copy run at = (at ≤ length s)
+
+abbrev μ-loop : tie.MeasureT-loop
+μ-loop s log₀ copy₀ run₀ at₀ log copy run at = length s - at
+
+started-requires : tie.Need-started-requires Inv-loop μ-loop
+started-requires c κs = search needs
+
+loop-holds : tie.Need-loop-holds Inv-loop μ-loop
+loop-holds c = search needs
+
+sub-loop : tie.Need-sub-loop Inv-loop μ-loop
+sub-loop c = search needs
+
+sub-record-in : tie.Need-sub-record-in Inv-loop μ-loop
+sub-record-in c = search needs
+
+part-record-in-start : tie.Need-part-record-in-start Inv-loop μ-loop
+part-record-in-start c = search needs
+
+part-record-in-end : tie.Need-part-record-in-end Inv-loop μ-loop
+part-record-in-end c = search needs
+
+record-in-requires : tie.Need-record-in-requires Inv-loop μ-loop
+record-in-requires c κs = search needs
+
+add-at : tie.Need-add-at Inv-loop μ-loop
+add-at c = search needs
+
+next-requires : tie.Need-next-requires Inv-loop μ-loop
+next-requires c κs = search needs
+
+loop-less : tie.Need-loop-less Inv-loop μ-loop
+loop-less c = search needs
+
+loop-again : tie.Need-loop-again Inv-loop μ-loop
+loop-again c = search needs
+
+returns : tie.Need-returns Inv-loop μ-loop
+returns c = search needs
+
+pub all-spec : {M : Type 1} → statement M
+all-spec =
+    tie.close
+    (tie.spec
+    Inv-loop
+    μ-loop
+    started-requires
+    loop-holds
+    sub-loop
+    sub-record-in
+    part-record-in-start
+    part-record-in-end
+    record-in-requires
+    add-at
+    next-requires
+    loop-less
+    loop-again
+    returns)

@@ -1,3 +1,0 @@
--- What the proofs of the code cite.
-pub mod Entries
-pub mod ThreadEntries

@@ -1,6 +1,0 @@
--- What the code's own structs stand for in the definitions of the notes.
-use Rattle.notes.specs.Spans as notes
-use Rattle.writing.specs.declared.spans.Span.{Span}
-
-abbrev pub meant : Span → notes.Span
-meant s = notes.span (s .first) (s .count)
