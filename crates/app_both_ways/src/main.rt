@@ -44,7 +44,7 @@ fn forward(start: Run, s: &[u8], log: &mut [u8]) -> Run {
     let mut end: usize = 0;
     let mut at: usize = 0;
     while 16 <= s.len() - at {
-        let l = code_answers::recorded(run.kernel, last::record_in(&s[at..]), log, run.used);
+        let l = code_answers::recorded(run.kernel, last::call_bytes(&s[at..]), log, run.used);
         let n = std::num::wrapping_add_u64(run.serial, 1);
         let note = std::num::wrapping_sub_usize(l.used, run.used);
         end = put_call(&mut out, end, n, l.answer, note);
@@ -56,7 +56,7 @@ fn forward(start: Run, s: &[u8], log: &mut [u8]) -> Run {
         };
         at += 16;
     }
-    io::write_all(1, base_lines::front(&out, end));
+    io::write_all(1, base_lines::up_to(&out, end));
     run
 }
 
@@ -92,7 +92,7 @@ fn backwards(k: Kernel, log: &[u8; 1048576], used: usize) -> Kernel {
             return l.kernel;
         }
         let end = put_undo(&mut out, l.answer, l.used);
-        io::write_all(1, base_lines::front(&out, end));
+        io::write_all(1, base_lines::up_to(&out, end));
         let state = l.kernel;
         l = undos::undo(state, log, l.used);
         turns -= 1;

@@ -18,7 +18,7 @@ fn all_forward(log: &mut [u8; 1048576]) {
         used = l.used;
         turns -= 1;
     }
-    io::write_all(1, base_lines::front(log, used));
+    io::write_all(1, base_lines::up_to(log, used));
 }
 
 fn main() {

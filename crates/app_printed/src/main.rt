@@ -24,7 +24,7 @@ fn replayed(start: Run, s: &[u8]) -> Run {
     let mut end: usize = 0;
     let mut at: usize = 0;
     while 16 <= s.len() - at {
-        let l = code_answers::recorded(run.kernel, last::record_in(&s[at..]), &mut log, 0);
+        let l = code_answers::recorded(run.kernel, last::call_bytes(&s[at..]), &mut log, 0);
         let n = std::num::wrapping_add_u64(run.serial, 1);
         end = put_answer(&mut out, end, n, l.answer);
         let state = l.kernel;
@@ -34,7 +34,7 @@ fn replayed(start: Run, s: &[u8]) -> Run {
         };
         at += 16;
     }
-    io::write_all(1, base_lines::front(&out, end));
+    io::write_all(1, base_lines::up_to(&out, end));
     run
 }
 

@@ -24,7 +24,7 @@ fn round(fresh: Kernel, s: &[u8], log: &mut [u8]) -> Total {
     let mut accepted: u64 = 0;
     let mut at: usize = 0;
     while 16 <= s.len() - at {
-        let l = code_answers::recorded(k, last::record_in(&s[at..]), log, used);
+        let l = code_answers::recorded(k, last::call_bytes(&s[at..]), log, used);
         k = l.kernel;
         used = l.used;
         accepted = std::num::wrapping_add_u64(accepted, one_if(l.answer.number == 0));

@@ -39,7 +39,7 @@ pub fn put_line(out: &mut [u8], at: usize, numbers: &[u64]) -> usize
 }
 
 // The bytes in front of `end`.
-pub fn front(bytes: &[u8], end: usize) -> &[u8]
+pub fn up_to(bytes: &[u8], end: usize) -> &[u8]
     ensures { λ r. ⌜ now r ≡ take end (now (bytes .entry)) ⌝ }
 {
     if end <= bytes.len() {

@@ -11,14 +11,14 @@ use lib.ListN.{length, getD, drop, length-append}
 use lib.Seq.{drop-at}
 use borrow.Author.Tests.{eqb-true}
 use Rattle.base_bytes.specs.Bytes.{le, un, Small}
-use Rattle.base_rows.specs.Rows.{flagOf, fieldOf, flagsOf, bodyOf, flagged, rowFrom, usedBy, cut, sum, Fit}
+use Rattle.base_rows.specs.Rows.{flagOf, fieldOf, flagsOf, bodyOf, firstFlagged, rowFrom, usedBy, cut, sum, Fit}
 use Rattle.base_bytes.proofs.Numbers.{length-le, un-le, le-small, small-append}
 
 -- The first field is flagged where it is not as predicted, and behind its flag are the others'.
-flags-first : (o p f : ℕ) → (flagged (flagOf o p + 2 * f) ≡ not (eqb o p)) × ((flagOf o p + 2 * f) / 2 ≡ f)
+flags-first : (o p f : ℕ) → (firstFlagged (flagOf o p + 2 * f) ≡ not (eqb o p)) × ((flagOf o p + 2 * f) / 2 ≡ f)
 flags-first o p f = go (eqb o p)
   where
-    go : (b : Bool) → (flagged (cond b 0 1 + 2 * f) ≡ not b) × ((cond b 0 1 + 2 * f) / 2 ≡ f)
+    go : (b : Bool) → (firstFlagged (cond b 0 1 + 2 * f) ≡ not b) × ((cond b 0 1 + 2 * f) / 2 ≡ f)
     go true = let e : (0 + 2 * f) % 2 ≡ 0 = omega arith in (rw e, omega arith)
     go false = let e : (1 + 2 * f) % 2 ≡ 1 = omega arith in (rw e, omega arith)
 

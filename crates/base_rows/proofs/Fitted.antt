@@ -7,7 +7,7 @@ use native.Mathlib.Omega.{arith}
 use lib.ListN.{getD, take, drop}
 use lib.Seq.{getD-drop}
 use borrow.Table.Steps.{cases}
-use Rattle.base_rows.specs.Rows.{flagged, taken, rowFrom, fitted, Fit}
+use Rattle.base_rows.specs.Rows.{firstFlagged, taken, rowFrom, fitted, Fit}
 use Rattle.base_bytes.proofs.Numbers.{un-small}
 
 -- Where each field fits its width, nothing is cut.
@@ -35,7 +35,7 @@ pub row-at : (ws : List ℕ) (flags : ℕ) (ps s : List ℕ) → Bytes s → (i 
 unfolding rowFrom
 row-at [] flags ps s h i p = omega arith
 row-at (w ∷ ws) flags [] s h i p = p
-row-at (w ∷ ws) flags (x ∷ ps) s h zero p = cases (flagged flags) (λ e. rw e (un-small w s h)) (λ e. rw e p)
+row-at (w ∷ ws) flags (x ∷ ps) s h zero p = cases (firstFlagged flags) (λ e. rw e (un-small w s h)) (λ e. rw e p)
 row-at (w ∷ ws) flags (x ∷ ps) s h (suc i) p = row-at ws (flags / 2) ps (drop (taken w flags) s) (drop-bytes (taken w flags) s h) i p
 
 -- and so does the whole row.
@@ -43,6 +43,6 @@ pub rows-fit : (ws : List ℕ) (flags : ℕ) (ps s : List ℕ) → Bytes s → F
 unfolding rowFrom
 rows-fit [] flags [] s h q = tt
 rows-fit (w ∷ ws) flags (p ∷ ps) s h (b, q) = (
-  cases (flagged flags) (λ e. rw e (un-small w s h)) (λ e. rw e b),
+  cases (firstFlagged flags) (λ e. rw e (un-small w s h)) (λ e. rw e b),
   rows-fit ws (flags / 2) ps (drop (taken w flags) s) (drop-bytes (taken w flags) s h) q,
 )

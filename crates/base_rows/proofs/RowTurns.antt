@@ -8,7 +8,7 @@ use native.Mathlib.Omega.{arith}
 use lib.ListN.{length, getD, drop, take, set, length-drop, drop-of-length-le}
 use lib.Seq.{drop-cons, drop-drop, take-suc-set, append-snoc, take-all}
 use Rattle.base_bytes.specs.Bytes.{un}
-use Rattle.base_rows.specs.Rows.{flagOf, fieldOf, flagsOf, bodyOf, flagged, taken, rowFrom, usedBy, cut}
+use Rattle.base_rows.specs.Rows.{flagOf, fieldOf, flagsOf, bodyOf, firstFlagged, taken, rowFrom, usedBy, cut}
 use Rattle.base_rows.proofs.Codec.{flags-small}
 
 -- one field that is compared, from the last on, and one that is written
@@ -36,7 +36,7 @@ body-end ws os ps k h = rw (drop-of-length-le ws h)
 -- one field that is read
 pub row-next : (ws ps s : List ℕ) (f k a : ℕ) → k < length ws → k < length ps
     → rowFrom (cut (drop k ws)) f (drop k ps) (drop a s)
-    ≡ cond (flagged f) (un (min (getD ws k 0) 4) (drop a s)) (getD ps k 0)
+    ≡ cond (firstFlagged f) (un (min (getD ws k 0) 4) (drop a s)) (getD ps k 0)
     ∷ rowFrom (cut (drop (k + 1) ws)) (f / 2) (drop (k + 1) ps) (drop (a + taken (min (getD ws k 0) 4) f) s)
 unfolding rowFrom cut
 row-next ws ps s f k a h i = rw (drop-cons ws k 0 h, drop-cons ps k 0 i, drop-drop, add-one)

@@ -29,18 +29,18 @@ bodyOf (w ∷ ws) (o ∷ os) [] = []
 bodyOf (w ∷ ws) (o ∷ os) (p ∷ ps) = fieldOf w o p ++ bodyOf ws os ps
 
 -- Whether the first field is flagged.
-abbrev pub flagged : ℕ → Bool
-flagged flags = eqb (flags % 2) 1
+abbrev pub firstFlagged : ℕ → Bool
+firstFlagged flags = eqb (flags % 2) 1
 
 -- How many bytes the first field takes.
 abbrev pub taken : ℕ → ℕ → ℕ
-taken w flags = cond (flagged flags) w 0
+taken w flags = cond (firstFlagged flags) w 0
 
 -- The row read back: a flagged field from the bytes, another as predicted.
 unfoldable pub rowFrom : List ℕ → ℕ → List ℕ → List ℕ → List ℕ
 rowFrom [] flags ps s = []
 rowFrom (w ∷ ws) flags [] s = []
-rowFrom (w ∷ ws) flags (p ∷ ps) s = cond (flagged flags) (un w s) p ∷ rowFrom ws (flags / 2) ps (drop (taken w flags) s)
+rowFrom (w ∷ ws) flags (p ∷ ps) s = cond (firstFlagged flags) (un w s) p ∷ rowFrom ws (flags / 2) ps (drop (taken w flags) s)
 
 -- How many bytes the flagged fields take.
 unfoldable pub usedBy : List ℕ → ℕ → ℕ

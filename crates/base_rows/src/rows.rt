@@ -5,7 +5,7 @@ ghost use mathlib.Core.Bool.{cond};
 ghost use lib.ListN.{drop};
 ghost use Rattle.base_bytes.specs.Bytes.{un};
 ghost use Rattle.base_bytes.specs.Pens.{pen, puts};
-ghost use Rattle.base_rows.specs.Rows.{flagOf, fieldOf, flagsOf, bodyOf, flagged, taken, rowFrom, usedBy, cut};
+ghost use Rattle.base_rows.specs.Rows.{flagOf, fieldOf, flagsOf, bodyOf, firstFlagged, taken, rowFrom, usedBy, cut};
 use base_bytes::bytes::least;
 use base_bytes::bytes::number_at;
 use base_bytes::pens::put_number;
@@ -89,7 +89,7 @@ fn cut_width(w: u8) -> u8
 
 // A field read back: from a place where it is flagged, else as predicted.
 fn field_at(s: &[u8], at: usize, w: u8, flags: u8, predicted: u32) -> u32
-    ensures { λ r. ⌜ r ≡ cond (flagged flags) (un (min w 4) (drop at (now (s .entry)))) predicted ⌝ }
+    ensures { λ r. ⌜ r ≡ cond (firstFlagged flags) (un (min w 4) (drop at (now (s .entry)))) predicted ⌝ }
 {
     if flags % 2 == 1 {
         return number_at(s, at, w as usize);

@@ -17,7 +17,7 @@ use Rattle.spec_notes.proofs.FramesRead.{note-sizes}
 use Rattle.code_notes.specs.Spans.{noteIn}
 use Rattle.code_notes.proofs.SpansOfCalls.{note-in}
 use Rattle.spec_answers.specs.Steps.{answer}
-use Rattle.spec_answers.specs.Logs.{logged, nextOf, noteFor, recorded, logAfter}
+use Rattle.spec_answers.specs.Logs.{logged, stateAfter, noteFor, recorded, logAfter}
 
 module _ (k : Kernel) (bytes log : List ℕ) (used : ℕ) where
   pub ends-refused : (n : ℕ) → n ≡ numberOf k (callOf bytes) → (n ≡ 0 → ⊥)
@@ -38,12 +38,12 @@ module _ (k : Kernel) (bytes log : List ℕ) (used : ℕ) where
     pub ends-full : ends log used (noteFor k bytes) ≡ used → logged (answer 13 255 (k .runner)) k used ≡ recorded k bytes log used
     unfolding recorded ends noteFor
     ends-full h =
-        let (low, _) = note-sizes k bytes (nextOf k bytes) sixteen in
+        let (low, _) = note-sizes k bytes (stateAfter k bytes) sixteen in
         cases (room log used (noteFor k bytes))
         (λ e. let w : used + length (noteFor k bytes) ≡ used = rw e at h in absurd (omega (arith, w, low))) (λ e. rw (zero-number, e))
 
     pub ends-noted : (ends log used (noteFor k bytes) ≡ used → ⊥)
-        → logged (answer 0 (valueOf k (callOf bytes)) (nextOf k bytes .runner)) (nextOf k bytes) (ends log used (noteFor k bytes)) ≡ recorded k bytes log used
+        → logged (answer 0 (valueOf k (callOf bytes)) (stateAfter k bytes .runner)) (stateAfter k bytes) (ends log used (noteFor k bytes)) ≡ recorded k bytes log used
     unfolding recorded ends
     ends-noted h = cases (room log used (noteFor k bytes)) (λ e. rw (zero-number, e)) (λ e. absurd (h (rw e)))
 
@@ -54,7 +54,7 @@ pub record Left (k : Kernel) (bytes log log′ : List ℕ) (used end v : ℕ) (u
   pub with-room : (end ≡ used → ⊥) → logged (answer 0 v (u .runner)) u end ≡ recorded k bytes log used
 
 pub left : (k : Kernel) (bytes log log′ : List ℕ) (used end v : ℕ) (u : Kernel) → length bytes ≡ 16 → length (k .threads) ≡ 32
-    → numberOf k (callOf bytes) ≡ 0 → v ≡ valueOf k (callOf bytes) → u ≡ nextOf k bytes
+    → numberOf k (callOf bytes) ≡ 0 → v ≡ valueOf k (callOf bytes) → u ≡ stateAfter k bytes
     → (log′ ≡ noted log used (noteIn k bytes u v)) × (end ≡ ends log used (noteIn k bytes u v)) → Left k bytes log log′ used end v u
 unfolding noteFor
 left k bytes log log′ used end v u sixteen all n e s (l, d) =

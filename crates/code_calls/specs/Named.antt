@@ -9,7 +9,7 @@ use Rattle.spec_kernel.specs.Truth.{isTrue}
 use Rattle.spec_kernel.specs.Places.{semaphoreHome, isQueued}
 use Rattle.spec_kernel.specs.Free.{freeThread, freeSemaphore, freeMessage}
 use Rattle.spec_kernel.specs.Channels.{nextMessage}
-use Rattle.code_kernel_find.specs.AtHome.{firstOfLine}
+use Rattle.code_kernel_find.specs.AtHome.{firstAtHome}
 use Rattle.spec_calls.specs.declared.call.Call.{Call}
 use Rattle.code_calls.specs.declared.named.Named.{Named}
 use Rattle.spec_calls.specs.Kinds.{fromInterrupt, fromThread}
@@ -17,7 +17,7 @@ use Rattle.spec_refusals.specs.Refusals.{someOf, is, isOneOf, unknown, badNumbe
 
 -- the first that waits for semaphore a, of the kinds that it stops or that wake it, else 255
 unfoldable pub waiterBy : Kernel → Call → ℕ
-waiterBy k c = cond (isOneOf c (15 ∷ 19 ∷ 28 ∷ [])) (firstOfLine (k .threads) (k .places) (semaphoreHome (c .a))) 255
+waiterBy k c = cond (isOneOf c (15 ∷ 19 ∷ 28 ∷ [])) (firstAtHome (k .threads) (k .places) (semaphoreHome (c .a))) 255
 
 -- "A value (created id, message received at once, else 255)": the lowest free id of what is created, the message that a pend takes
 unfoldable pub foundBy : Kernel → Call → ℕ

@@ -47,7 +47,7 @@ fn waiter_by(k: Kernel, c: Call) -> u8
         15 | 19 | 28 => {
             let threads = k.threads;
             let places = k.places;
-            firsts::first_of_line(threads, places, 256 + (c.a as u16))
+            firsts::first_at_home(threads, places, 256 + (c.a as u16))
         }
         _ => 255,
     }

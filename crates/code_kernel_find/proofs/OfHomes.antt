@@ -18,7 +18,7 @@ use Rattle.spec_kernel.specs.declared.records.Thread.{Thread}
 use Rattle.spec_kernel.specs.Records.{noThread}
 use Rattle.spec_kernel.specs.Places.{nowhere, homeOf}
 use Rattle.spec_moves.proofs.Joins.{past-end}
-use Rattle.code_kernel_find.specs.AtHome.{firstOfLine}
+use Rattle.code_kernel_find.specs.AtHome.{firstAtHome}
 
 -- a loop that looks for the first that f holds of among the first n of a store: it is not among the first i
 abbrev pub Search : (ℕ → Bool) → List ℕ → ℕ → ℕ → Type 0
@@ -62,9 +62,9 @@ abbrev pub isHome : List Thread → ℕ → ℕ → Bool
 isHome threads h u = eqb (homeOf (getD threads u noThread)) h
 
 -- an id other than 255 is the first of the list or queue
-pub first-head : (threads : List Thread) (places : Queue) (h : ℕ) → (firstOfLine threads places h ≡ 255 → ⊥)
-    → keep (isHome threads h) (items places) ≡ firstOfLine threads places h ∷ drop 1 (keep (isHome threads h) (items places))
-unfolding firstOfLine
+pub first-head : (threads : List Thread) (places : Queue) (h : ℕ) → (firstAtHome threads places h ≡ 255 → ⊥)
+    → keep (isHome threads h) (items places) ≡ firstAtHome threads places h ∷ drop 1 (keep (isHome threads h) (items places))
+unfolding firstAtHome
 first-head threads places h s = first-cons (keep (isHome threads h) (items places)) s
 
 module _ (threads : List Thread) (e : length threads ≡ 32) where
@@ -77,11 +77,11 @@ module _ (threads : List Thread) (e : length threads ≡ 32) where
 
   module _ (places : Queue) {h : ℕ} (b : h < 1024) where
     -- 255 says that the list or queue is empty
-    pub first-empty : eqb (firstOfLine threads places h) 255 ≡ isEmpty (keep (isHome threads h) (items places))
-    unfolding firstOfLine
+    pub first-empty : eqb (firstAtHome threads places h) 255 ≡ isEmpty (keep (isHome threads h) (items places))
+    unfolding firstAtHome
     first-empty = first-none (keep (isHome threads h) (items places)) (λ c. omega (arith, line-member (items places) (λ z. omega arith) c))
 
     -- any other id is a thread
-    pub first-thread : (firstOfLine threads places h ≡ 255 → ⊥) → firstOfLine threads places h < 32
-    unfolding firstOfLine
+    pub first-thread : (firstAtHome threads places h ≡ 255 → ⊥) → firstAtHome threads places h < 32
+    unfolding firstAtHome
     first-thread s = line-member (items places) (λ z. omega arith) (first-member (keep (isHome threads h) (items places)) s)

@@ -11,5 +11,5 @@ use Rattle.spec_kernel.specs.Records.{noThread}
 use Rattle.spec_kernel.specs.Places.{homeOf}
 
 -- the first of those whose home is h, or 255; `line` of the kernel, over the two arrays that it reads
-unfoldable pub firstOfLine : List Thread → Queue → ℕ → ℕ
-firstOfLine threads places h = firstOf (keep (λ t. eqb (homeOf (getD threads t noThread)) h) (items places))
+unfoldable pub firstAtHome : List Thread → Queue → ℕ → ℕ
+firstAtHome threads places h = firstOf (keep (λ t. eqb (homeOf (getD threads t noThread)) h) (items places))

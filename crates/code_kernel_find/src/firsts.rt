@@ -1,14 +1,14 @@
 // The first thread of a list or queue, and the next message of a thread; 255 for none.
 ghost use mathlib.Core.Path.{_≡_};
-ghost use Rattle.spec_kernel.specs.Channels.{isFor, nextOf};
-ghost use Rattle.code_kernel_find.specs.AtHome.{firstOfLine};
+ghost use Rattle.spec_kernel.specs.Channels.{isFor, firstFor};
+ghost use Rattle.code_kernel_find.specs.AtHome.{firstAtHome};
 use code_kernel::places;
 use spec_kernel::records::Message;
 use spec_kernel::records::Thread;
 use base_queue::Queue;
 
-pub fn first_of_line(threads: [Thread; 32], places: Queue, home: u16) -> u8
-    ensures { λ r. ⌜ r ≡ firstOfLine threads places home ⌝ }
+pub fn first_at_home(threads: [Thread; 32], places: Queue, home: u16) -> u8
+    ensures { λ r. ⌜ r ≡ firstAtHome threads places home ⌝ }
 {
     let at = places.at;
     let n = base_queue::size(places);
@@ -39,7 +39,7 @@ fn is_for(t: u8, mask: u16, r: Message) -> bool
 }
 
 pub fn next_message(messages: [Message; 64], posted: Queue, t: u8, mask: u16) -> u8
-    ensures { λ r. ⌜ r ≡ nextOf messages posted t mask ⌝ }
+    ensures { λ r. ⌜ r ≡ firstFor messages posted t mask ⌝ }
 {
     let at = posted.at;
     let n = base_queue::size(posted);

@@ -1,6 +1,6 @@
 // The two moves over the whole state, and the scheduler.
 ghost use mathlib.Core.Path.{_≡_};
-ghost use Rattle.spec_moves.specs.States.{withThreads, place, file, scheduled};
+ghost use Rattle.spec_moves.specs.States.{withThreads, moveThread, moveMessage, scheduled};
 ghost use Rattle.spec_moves.specs.Standing.{threadsOf};
 use spec_moves::parts::Threads;
 use spec_kernel::records::Kernel;
@@ -37,14 +37,14 @@ pub fn with_threads(k: Kernel, p: Threads) -> Kernel
 
 // Thread `id` gets the record r and takes its places.
 pub fn placed(k: Kernel, id: u8, r: Thread) -> Kernel
-    ensures { λ x. ⌜ x ≡ place id r k ⌝ }
+    ensures { λ x. ⌜ x ≡ moveThread id r k ⌝ }
 {
     with_threads(k, crate::relocated(threads_of(k), id, r))
 }
 
 // Message `id` gets the record r and takes its place.
 pub fn filed(k: Kernel, id: u8, r: Message) -> Kernel
-    ensures { λ x. ⌜ x ≡ file id r k ⌝ }
+    ensures { λ x. ⌜ x ≡ moveMessage id r k ⌝ }
 {
     if 64 <= id {
         return k;

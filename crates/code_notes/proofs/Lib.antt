@@ -1,5 +1,5 @@
 pub mod Sizes
-pub mod Fronts
+pub mod BeforeLength
 pub mod InSpans
 pub mod SpansOfCalls
 pub mod Waiters

@@ -24,11 +24,11 @@ use Rattle.spec_moves.proofs.Threads.{relocate-other}
 use Rattle.spec_moves.proofs.Posts.{repost-other}
 use Rattle.spec_kernel.specs.Free.{freeThread, freeSemaphore, freeMessage}
 use Rattle.spec_kernel.specs.Channels.{nextMessage}
-use Rattle.code_kernel_find.specs.AtHome.{firstOfLine}
+use Rattle.code_kernel_find.specs.AtHome.{firstAtHome}
 use Rattle.spec_calls.specs.declared.call.Call.{Call}
 use Rattle.spec_calls.specs.Calls.{callOf}
 use Rattle.spec_refusals.specs.Refusals.{is, badId, numberOf}
-use Rattle.spec_moves.specs.States.{place, withSemaphore, withBits, asByte, scheduled}
+use Rattle.spec_moves.specs.States.{moveThread, withSemaphore, withBits, asByte, scheduled}
 use Rattle.spec_threads.specs.Threads.{block, wake, freeMessages, createThread, destroyThread, setPriority, resetPriority, yielded, sleep}
 use Rattle.spec_regions.specs.Regions.{pushUnscheduled, popUnscheduled, popAllUnscheduled, pushCritical, popCritical, popAllCritical}
 use Rattle.spec_kernel.specs.WordsOfLaws.{OtherThreads, OtherMessages}
@@ -43,7 +43,7 @@ use Rattle.proof_rules.proofs.Effects.{_▸_, end, effect-of}
 use Rattle.spec_notes.specs.Touched.{movesInPlace, touchedThread, touchedSemaphore, touchedEvent, touchedMessage}
 use Rattle.spec_notes.specs.Sections.{threadEntry, semaphoreEntry, eventEntry, messageEntry}
 use Rattle.spec_notes.specs.Sections.{threadsSection, semaphoresSection, eventsSection, messagesSection}
-use Rattle.spec_notes.specs.Notes.{front, noteOf}
+use Rattle.spec_notes.specs.Notes.{beforeLength, noteOf}
 use Rattle.code_notes.specs.Spans.{span, alone, threadSpan, semaphoreSpan, eventSpan, messageSpan, waiterOf, threadsIn, semaphoresIn, eventsIn, messagesIn, frontIn, noteIn}
 use Rattle.spec_notes.proofs.Slight.{event-stays, message-stays, post-parts, pulses-parts}
 use Rattle.spec_notes.proofs.TickSlight.{post-other}
@@ -119,9 +119,9 @@ module _ (k : Kernel) (c : Call) (v : ℕ) (o : is c 1 ≡ false) where
   }
 
   placed : (x : ℕ) (r : Thread) → ((t : ℕ) → movesInPlace (k .runner) c t ≡ true → t ≡ x)
-      → threadSpan c (k .runner) v (waiterOf k c) ≡ alone 32 x → Nobody → Spanned k c v (place x r k)
+      → threadSpan c (k .runner) v (waiterOf k c) ≡ alone 32 x → Nobody → Spanned k c v (moveThread x r k)
   placed x r m t n =
-      let u : Kernel = place x r k in
+      let u : Kernel = moveThread x r k in
       record {
         threads = rw t (one-thread k c u o x (λ t. relocate-other (threadsOf k) x r) m);
         semaphores = rw (n .0) (no-semaphore k c u o refl);
@@ -154,8 +154,8 @@ module _ (k : Kernel) (c : Call) (v : ℕ) (o : is c 1 ≡ false) where
       }
 
 -- a post changes the first waiter at most
-waiter-only : (k : Kernel) (i : ℕ) → OtherThreads (firstOfLine (k .threads) (k .places) (256 + i)) k (post i k)
-unfolding post wake firstOfLine
+waiter-only : (k : Kernel) (i : ℕ) → OtherThreads (firstAtHome (k .threads) (k .places) (256 + i)) k (post i k)
+unfolding post wake firstAtHome
 waiter-only k i = go (semaphoreQueue k i)
   where
     go : (q : List ℕ) → OtherThreads (firstOf q) k (postTo q i k)
@@ -377,8 +377,8 @@ module _ (k : Kernel) (c : Call) (u : Kernel) {v : ℕ} (S : Spanned k c v u) wh
   unfolding messagesSection
   messages-in = part-entries (S .messages) (messageEntry k c u)
 
-front-in : (k : Kernel) (bytes : List ℕ) (u : Kernel) (v : ℕ) → Spanned k (callOf bytes) v u → frontIn k bytes u v ≡ front k bytes u
-unfolding frontIn front
+front-in : (k : Kernel) (bytes : List ℕ) (u : Kernel) (v : ℕ) → Spanned k (callOf bytes) v u → frontIn k bytes u v ≡ beforeLength k bytes u
+unfolding frontIn beforeLength
 front-in k bytes u v S =
     let c = callOf bytes in
     rw (threads-in k c u S, semaphores-in k c u S, events-in k c u S, messages-in k c u S)

@@ -7,7 +7,7 @@ use lib.Dec.{eqb, ltb}
 use lib.ListN.{length}
 use Rattle.base_bytes.specs.Bytes.{le}
 use Rattle.spec_kernel.specs.declared.records.Kernel.{Kernel}
-use Rattle.code_kernel_find.specs.AtHome.{firstOfLine}
+use Rattle.code_kernel_find.specs.AtHome.{firstAtHome}
 use Rattle.spec_calls.specs.declared.call.Call.{Call}
 use Rattle.spec_calls.specs.Calls.{callOf}
 use Rattle.spec_refusals.specs.Refusals.{is, isOneOf}
@@ -67,7 +67,7 @@ messagesIn k c k′ s = entriesFrom (touchedMessage k c k′) (messageEntry k c 
 
 -- the first that waits for semaphore a
 abbrev pub waiterOf : Kernel → Call → ℕ
-waiterOf k c = firstOfLine (k .threads) (k .places) (256 + c .a)
+waiterOf k c = firstAtHome (k .threads) (k .places) (256 + c .a)
 
 unfoldable pub frontIn : Kernel → List ℕ → Kernel → ℕ → List ℕ
 frontIn k bytes k′ value =

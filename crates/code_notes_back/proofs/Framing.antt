@@ -14,7 +14,7 @@ use Rattle.base_bytes.specs.Bytes.{un}
 use Rattle.base_bytes.proofs.Turns.{drop-least}
 use Rattle.spec_notes.specs.Back.{Sections}
 use Rattle.spec_notes.specs.Frames.{nothing, sections, isWhole, firstSection, behindSection, areWhole, framesFrom, framesOf}
-use Rattle.spec_notes.specs.Undoes.{recordIn}
+use Rattle.spec_notes.specs.Undoes.{callBytes}
 use Rattle.code_notes_back.specs.Meant.{partOf, sectionsMeant, recordOf}
 use Rattle.code_notes_back.specs.declared.frames.Part.{Part}
 use Rattle.code_notes_back.specs.declared.frames.Frames.{Frames}
@@ -105,8 +105,8 @@ module _ (s : List ℕ) (v w x y z : ℕ) where
 
 -- ---- the call record
 -- of a note that has one
-pub record-whole : (note : List ℕ) → 16 ≤ length note → recordOf note ≡ recordIn note
-unfolding recordOf recordIn
+pub record-whole : (note : List ℕ) → 16 ≤ length note → recordOf note ≡ callBytes note
+unfolding recordOf callBytes
 record-whole note h = take-append-le 16 note (replicate 16 0) h
 
 pub record-size : (note : List ℕ) → length (recordOf note) ≡ 16

@@ -12,14 +12,14 @@ use borrow.Author.Tests.{leb-true, leb-false}
 use Rattle.base_queue.specs.Queues.{pad, pack}
 use Rattle.base_queue.proofs.Lists.{and-both, rest-next}
 use Rattle.base_queue.proofs.Queues.{pad-push, queue-eq}
-use Rattle.spec_notes.specs.Back.{place, merge}
+use Rattle.spec_notes.specs.Back.{fillPlace, merge}
 
 -- the places from i on
 abbrev pub mergeFrom : ℕ → List ℕ → List ℕ → List ℕ
 mergeFrom i at m = merge (length (drop i at)) (drop i at) m
 
 -- a place x with a noted member
-place-noted : (x : ℕ) (l : List ℕ) (go : List ℕ → List ℕ) → eqb x 255 ≡ false → place x l go ≡ x ∷ go l
+place-noted : (x : ℕ) (l : List ℕ) (go : List ℕ → List ℕ) → eqb x 255 ≡ false → fillPlace x l go ≡ x ∷ go l
 place-noted x [] go p = rw p
 place-noted x (y ∷ l) go p = rw p
 
@@ -28,7 +28,7 @@ module _ (at l : List ℕ) (n i j : ℕ) (h : i < length at) (s : n ≤ length l
   abbrev x : ℕ
   x = getD at i 0
 
-  first : (m : List ℕ) → mergeFrom i at m ≡ place x m (mergeFrom (i + 1) at)
+  first : (m : List ℕ) → mergeFrom i at m ≡ fillPlace x m (mergeFrom (i + 1) at)
   first m = rw (add-one, drop-cons at i 0 h)
 
   -- one place: the noted member, or the next that stayed
@@ -37,7 +37,7 @@ module _ (at l : List ℕ) (n i j : ℕ) (h : i < length at) (s : n ≤ length l
   merge-next e = first (drop j (take n l)) ∙ go (eqb x 255) refl e
     where
       go : (b : Bool) → eqb x 255 ≡ b → (b && leb n j) ≡ false
-          → place x (drop j (take n l)) (mergeFrom (i + 1) at) ≡ cond b (getD l j 0) x ∷ mergeFrom (i + 1) at (drop (cond b (j + 1) j) (take n l))
+          → fillPlace x (drop j (take n l)) (mergeFrom (i + 1) at) ≡ cond b (getD l j 0) x ∷ mergeFrom (i + 1) at (drop (cond b (j + 1) j) (take n l))
       go true p q =
           let g : j < n = leb-false n j q in
           let g′ : j < length l = omega arith in

@@ -33,7 +33,7 @@ pub fn has_last(log: &[u8], used: usize) -> bool
 }
 
 // The call record in front of a note; zeros where the note is shorter.
-pub fn record_in(note: &[u8]) -> [u8; 16]
+pub fn call_bytes(note: &[u8]) -> [u8; 16]
     ensures { λ r. ⌜ r ≡ recordOf (now (note .entry)) ⌝ }
 {
     let mut bytes = [0u8; 16];

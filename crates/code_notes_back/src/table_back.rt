@@ -48,7 +48,7 @@ fn kept(q: Queue, out: [u8; 64]) -> Queue
 }
 
 // Who stands at a place: its noted member x, or the next that stayed.
-fn next_of(x: u8, l: [u8; 64], j: usize) -> u8
+fn next_here(x: u8, l: [u8; 64], j: usize) -> u8
     ensures { λ r. ⌜ r ≡ cond (eqb x 255) (getD l j 0) x ⌝ }
 {
     if x != 255 {
@@ -86,7 +86,7 @@ fn merged(at: [u8; 64], q: Queue) -> Queue
         if ends(x, n, j) {
             return Queue { n: i as u8, at: a };
         }
-        a[i] = next_of(x, l, j);
+        a[i] = next_here(x, l, j);
         j = placed(x, j);
         i += 1;
     }

@@ -7,7 +7,7 @@ ghost use Rattle.base_bytes.specs.Pens.{pen, puts};
 ghost use Rattle.spec_notes.specs.Touched.{sameEvent};
 ghost use Rattle.spec_notes.specs.Sections.{eventNoted};
 ghost use Rattle.code_notes_events.specs.EventEntries.{eventEntries};
-use code_notes_entries::flagged::put_flagged;
+use code_notes_entries::fields::put_fields;
 use base_bytes::pens::put_byte;
 use spec_kernel::records::Event;
 use crate::event_rows;
@@ -23,7 +23,7 @@ pub fn put_event(log: &mut [u8], at: usize, i: u8, old: Event, new: Event) -> us
     let p = put_byte(log, at, i);
     let fields = before.fields;
     let predicted = told.fields;
-    put_flagged(log, p, EVENT_WIDTHS, fields, predicted)
+    put_fields(log, p, EVENT_WIDTHS, fields, predicted)
 }
 
 // The same, where it changed.

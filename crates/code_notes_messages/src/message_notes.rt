@@ -8,7 +8,7 @@ ghost use Rattle.base_bytes.specs.Pens.{pen, puts};
 ghost use Rattle.spec_notes.specs.Touched.{sameMessage};
 ghost use Rattle.spec_notes.specs.Sections.{messageNoted};
 ghost use Rattle.code_notes_messages.specs.MessageEntries.{messageEntries};
-use code_notes_entries::flagged::put_flagged;
+use code_notes_entries::fields::put_fields;
 use code_notes_entries::old_places::old_place;
 use spec_calls::call::Call;
 use base_bytes::pens::put_byte;
@@ -37,7 +37,7 @@ pub fn put_message(
     let p = put_byte(log, at, m);
     let fields = before.fields;
     let predicted = told.fields;
-    put_flagged(log, p, MESSAGE_WIDTHS, fields, predicted)
+    put_fields(log, p, MESSAGE_WIDTHS, fields, predicted)
 }
 
 // The same, where it changed.

@@ -5,7 +5,7 @@ ghost use mathlib.Core.Bool.{cond};
 ghost use lib.Dec.{eqb};
 ghost use Rattle.base_bytes.specs.Pens.{pen, puts};
 ghost use Rattle.code_notes_scheduler.specs.SchedulerEntry.{levelsNoted};
-use code_notes_entries::flagged::put_unless_predicted;
+use code_notes_entries::fields::put_unless_predicted;
 use spec_calls::call::Call;
 use crate::scheduler_rows;
 

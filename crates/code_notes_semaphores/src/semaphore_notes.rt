@@ -6,7 +6,7 @@ ghost use Rattle.base_bytes.specs.Pens.{pen, puts};
 ghost use Rattle.spec_notes.specs.Touched.{changedSemaphore};
 ghost use Rattle.spec_notes.specs.Sections.{semaphoreNoted};
 ghost use Rattle.code_notes_semaphores.specs.SemaphoreEntries.{semaphoreEntries};
-use code_notes_entries::flagged::put_flagged;
+use code_notes_entries::fields::put_fields;
 use spec_calls::call::Call;
 use base_bytes::pens::put_byte;
 use spec_kernel::records::Semaphore;
@@ -30,7 +30,7 @@ pub fn put_semaphore(
     let p = put_byte(log, at, i);
     let fields = before.fields;
     let predicted = told.fields;
-    put_flagged(log, p, SEMAPHORE_WIDTHS, fields, predicted)
+    put_fields(log, p, SEMAPHORE_WIDTHS, fields, predicted)
 }
 
 // The same, where more than ageing changed it.

@@ -6,7 +6,7 @@ ghost use Rattle.base_bytes.specs.Pens.{pen, puts};
 ghost use Rattle.spec_notes.specs.Touched.{movesInPlace, changedThread};
 ghost use Rattle.spec_notes.specs.Sections.{entriesFrom, threadNoted};
 ghost use Rattle.code_notes_threads.specs.ThreadEntries.{isChanged, entryOf, entryIn};
-use code_notes_entries::flagged::put_flagged;
+use code_notes_entries::fields::put_fields;
 use code_notes_entries::old_places::old_place;
 use spec_calls::call::Call;
 use base_bytes::pens;
@@ -59,7 +59,7 @@ pub fn put_thread(
     let guessed = guess.fields;
     let p = pens::put_byte(log, at, t);
     let q = pens::put_byte(log, p, code);
-    put_flagged(log, q, thread_rows::widths(), fields, guessed)
+    put_fields(log, q, thread_rows::widths(), fields, guessed)
 }
 
 // The entry of an id with its two records, where the call touched it. An id above 255 is nobody's.

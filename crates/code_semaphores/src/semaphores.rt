@@ -110,7 +110,7 @@ pub fn post(w: Waiting, i: u8) -> Waiting
     let records = p.records;
     let places = p.places;
     let semaphores = w.semaphores;
-    let first = firsts::first_of_line(records, places, 256 + (i as u16));
+    let first = firsts::first_at_home(records, places, 256 + (i as u16));
     if first == 255 {
         let r = by_id::semaphore_at(semaphores, i);
         return waiting::stored(w, i, raised(r));

@@ -6,7 +6,7 @@ ghost use lib.ListN.{getD};
 ghost use Rattle.base_queue.specs.Lists.{keep};
 ghost use Rattle.base_queue.specs.Queues.{items, pack};
 ghost use Rattle.spec_kernel.specs.Records.{noMessage};
-ghost use Rattle.spec_moves.specs.Moves.{relocate, recordIn};
+ghost use Rattle.spec_moves.specs.Moves.{relocate, threadIn};
 ghost use Rattle.spec_threads.specs.Threads.{born, blocked, awake, withPriority, block, createThread, owns, freedFrom, freeMessages, destroyThread, setPriority, resetPriority, yielded, sleep};
 use spec_calls::call::Call;
 use spec_moves::parts::Threads;
@@ -86,7 +86,7 @@ pub fn block(k: Kernel, condition: Condition, timeout: u32) -> Kernel
 
 // Thread t wakes for the reason `why`.
 pub fn woken(p: Threads, t: u8, why: Wake) -> Threads
-    ensures { λ x. ⌜ x ≡ relocate t (awake why (recordIn p t .reply) (recordIn p t)) p ⌝ }
+    ensures { λ x. ⌜ x ≡ relocate t (awake why (threadIn p t .reply) (threadIn p t)) p ⌝ }
 {
     let now = p.records;
     let r = by_id::thread_at(now, t as u16);

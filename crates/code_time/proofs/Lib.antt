@@ -1,1 +1,1 @@
-pub mod Pulses
+pub mod PulseTurns

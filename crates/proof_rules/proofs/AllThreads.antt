@@ -10,7 +10,7 @@ use Rattle.spec_kernel.specs.declared.records.Kernel.{Kernel}
 use Rattle.spec_moves.specs.declared.parts.Threads.{Threads}
 use Rattle.spec_kernel.specs.Records.{thread, message}
 use Rattle.spec_kernel.specs.Conditions.{isReady, awaits}
-use Rattle.spec_moves.specs.Moves.{recordIn}
+use Rattle.spec_moves.specs.Moves.{threadIn}
 use Rattle.spec_moves.specs.Standing.{Standing}
 use Rattle.spec_moves.specs.States.{withThreads}
 use Rattle.spec_threads.specs.Threads.{awake}
@@ -38,7 +38,7 @@ module _ {S : List Semaphore} {waited : ℕ → Bool} where
   }
 
 module _ {waited : ℕ → Bool} {k : Kernel} (C : Core waited k) {p : Threads} (S : Standing p)
-    (B : (t : ℕ) → Becomes (k .semaphores) waited (thread k t) (recordIn p t)) where
+    (B : (t : ℕ) → Becomes (k .semaphores) waited (thread k t) (threadIn p t)) where
   pub threads-core : Core waited (withThreads p k)
   threads-core = record {
     standing = S;

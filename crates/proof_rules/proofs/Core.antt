@@ -27,7 +27,7 @@ use Rattle.spec_moves.proofs.Joins.{past-end}
 use Rattle.spec_moves.proofs.Threads.{relocate-same, relocate-other, relocate-standing}
 use Rattle.spec_moves.proofs.Posts.{repost-same, repost-other, repost-filed}
 use Rattle.spec_rules.proofs.OfRecords.{Kept, live-or-not, KeptSemaphore}
-use Rattle.spec_moves.specs.States.{withSemaphore, withEvents, withScheduler, place, file}
+use Rattle.spec_moves.specs.States.{withSemaphore, withEvents, withScheduler, moveThread, moveMessage}
 
 -- ---- the records
 -- a semaphore that threads may wait for
@@ -119,7 +119,7 @@ module _ {waited : ℕ → Bool} {k : Kernel} (C : Core waited k) where
   -- ---- a thread gets a record
   module _ (t : ℕ) (b : t < 32) (r : Thread) where
     -- what holds of it, and of the others, holds of each
-    pub each-thread : (P : Thread → Type 0) (u : ℕ) → (u ≡ t → P r) → ((u ≡ t → ⊥) → P (thread k u)) → P (thread (place t r k) u)
+    pub each-thread : (P : Thread → Type 0) (u : ℕ) → (u ≡ t → P r) → ((u ≡ t → ⊥) → P (thread k u)) → P (thread (moveThread t r k) u)
     each-thread P u f g =
         cases (eqb u t)
         (λ e. let z = eqb-true u t e in rw (z, relocate-same (threadsOf k) t r (C .standing .count) b) (f z))
@@ -127,7 +127,7 @@ module _ {waited : ℕ → Bool} {k : Kernel} (C : Core waited k) where
 
     module _ (F : FineThread (k .semaphores) waited r) where
       pub place-core : ((m : ℕ) → message k m .live ≡ true → message k m .owner ≡ t
-          → (r .live ≡ true) × (awaits (r .condition) (message k m .channel) ≡ false)) → Core waited (place t r k)
+          → (r .live ≡ true) × (awaits (r .condition) (message k m .channel) ≡ false)) → Core waited (moveThread t r k)
       place-core owned = record {
         standing = relocate-standing (threadsOf k) t r (C .standing);
         filed = C .filed;
@@ -149,15 +149,15 @@ module _ {waited : ℕ → Bool} {k : Kernel} (C : Core waited k) where
       }
 
       -- a live one that awaits no message
-      pub place-calm : r .live ≡ true → ((c : ℕ) → awaits (r .condition) c ≡ false) → Core waited (place t r k)
+      pub place-calm : r .live ≡ true → ((c : ℕ) → awaits (r .condition) c ≡ false) → Core waited (moveThread t r k)
       place-calm l a = place-core (λ m _ _. (l, a (message k m .channel)))
 
       -- one with the condition that it had
-      pub place-alike : r .live ≡ thread k t .live → r .condition ≡ thread k t .condition → Core waited (place t r k)
+      pub place-alike : r .live ≡ thread k t .live → r .condition ≡ thread k t .condition → Core waited (moveThread t r k)
       place-alike l c = place-core (λ m e z. let L = C .messages m .living e in (l ∙ (rw z at (L .owner)), rw (c, ← z) (L .unawaited)))
 
   -- ---- a message gets a record
-  pub file-core : (m : ℕ) → m < 64 → (r : Message) → FineMessage (k .threads) r → Core waited (file m r k)
+  pub file-core : (m : ℕ) → m < 64 → (r : Message) → FineMessage (k .threads) r → Core waited (moveMessage m r k)
   file-core m b r F = record {
     standing = C .standing;
     filed = repost-filed (postsOf k) m r (C .filed);

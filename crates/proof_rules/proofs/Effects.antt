@@ -13,7 +13,7 @@ use Rattle.spec_kernel.specs.declared.records.Kernel.{Kernel}
 use Rattle.spec_calls.specs.declared.call.Call.{Call}
 use Rattle.spec_calls.specs.Kinds.{isKnown, unusedAreZero}
 use Rattle.spec_refusals.specs.Refusals.{unknown}
-use Rattle.spec_effects.specs.Effects.{Kind, noKind, kinds, effect}
+use Rattle.spec_effects.specs.Effects.{Kind, noKind, effectsOfKinds, effect}
 use Rattle.proof_rules.proofs.Ends.{Good, Before}
 use Rattle.proof_rules.proofs.Accepted.{Accepted}
 use Rattle.proof_rules.proofs.Threads.{kind-2, kind-4, kind-5, kind-6, kind-7}
@@ -37,7 +37,7 @@ fact-at {P} {n} (p ▸ f) (suc i) b = rw (add-suc n i, ← suc-add n i) (fact-at
 
 -- what holds of what each kind does holds of the effect; 0 is no kind
 pub effect-of : {k : Kernel} {c : Call} → Accepted k c → (P : Kernel → Type 0)
-    → ((c .kind ≡ 0 → P k) → Facts (λ n x. c .kind ≡ n → P (x .does k c)) 0 kinds) → P (effect k c)
+    → ((c .kind ≡ 0 → P k) → Facts (λ n x. c .kind ≡ n → P (x .does k c)) 0 effectsOfKinds) → P (effect k c)
 unfolding effect unknown isKnown
 effect-of {k} {c} A P facts =
     let b = and-both (isKnown c) (unusedAreZero c) (not-false (isKnown c && unusedAreZero c) (A .known)) .0 in

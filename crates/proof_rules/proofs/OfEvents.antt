@@ -15,7 +15,7 @@ use Rattle.spec_kernel.specs.declared.records.Kernel.{Kernel}
 use Rattle.spec_moves.specs.declared.parts.Threads.{Threads}
 use Rattle.spec_kernel.specs.Records.{thread, event}
 use Rattle.spec_kernel.specs.Truth.{isTrue}
-use Rattle.spec_moves.specs.Moves.{recordIn}
+use Rattle.spec_moves.specs.Moves.{threadIn}
 use Rattle.spec_moves.specs.Standing.{threadsOf, Standing}
 use Rattle.spec_calls.specs.declared.call.Call.{Call}
 use Rattle.spec_calls.specs.Kinds.{fromThread, rowOf}
@@ -38,7 +38,7 @@ module _ {w : ℕ → Bool} {k : Kernel} (C : Core w k) where
   worked-standing = outs-standing (k .events) (k .bits) 0 8 (C .standing)
 
   -- those that wake are live
-  worked-becomes : (t : ℕ) → Becomes (k .semaphores) w (thread k t) (recordIn after t)
+  worked-becomes : (t : ℕ) → Becomes (k .semaphores) w (thread k t) (threadIn after t)
   worked-becomes t =
       outs-last (k .events) (k .bits) (Becomes (k .semaphores) w (thread k t)) (λ r l B. becomes-awake B l Wake.Met) 0 8 (omega arith)
       (C .standing) t (stays (C .threads t))

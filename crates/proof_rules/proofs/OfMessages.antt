@@ -24,11 +24,11 @@ use Rattle.spec_kernel.specs.Conditions.{masks, awaits}
 use Rattle.spec_moves.specs.Standing.{postsOf}
 use Rattle.spec_moves.proofs.Posts.{repost-past}
 use Rattle.spec_kernel.specs.Free.{freeMessage}
-use Rattle.spec_kernel.specs.Channels.{isFor, nextOf, nextMessage}
+use Rattle.spec_kernel.specs.Channels.{isFor, firstFor, nextMessage}
 use Rattle.spec_calls.specs.declared.call.Call.{Call}
 use Rattle.spec_calls.specs.Kinds.{fromThread, rowOf}
 use Rattle.spec_refusals.specs.Refusals.{inRegion, badNumber, badId, blocksInRegion, stopsCaller}
-use Rattle.spec_moves.specs.States.{file, asByte}
+use Rattle.spec_moves.specs.States.{moveMessage, asByte}
 use Rattle.spec_threads.specs.Threads.{awake}
 use Rattle.spec_messages.specs.Messages.{passed, createMessage, destroyMessage, handOver, postMessage, receive, pendMessage}
 use Rattle.proof_rules.proofs.Core.{FineMessage, Core, untrue, live-thread, live-message, file-core, place-calm}
@@ -69,7 +69,7 @@ received-fine F = record {
 }
 
 -- an id too large changes nothing
-file-any : {waited : ℕ → Bool} {k : Kernel} → Core waited k → (m : ℕ) {r : Message} → FineMessage (k .threads) r → Core waited (file m r k)
+file-any : {waited : ℕ → Bool} {k : Kernel} → Core waited k → (m : ℕ) {r : Message} → FineMessage (k .threads) r → Core waited (moveMessage m r k)
 file-any {waited} {k} C m {r} F =
     cases (ltb m 64) (λ e. file-core C m (ltb-true m 64 e) r F) (λ e. rw (repost-past (postsOf k) m r (ltb-false m 64 e)) C)
 
@@ -88,7 +88,7 @@ module _ {waited : ℕ → Bool} {k : Kernel} (C : Core waited k) (mask : ℕ) w
 
   none-found : nextMessage k mask ≡ 255 → (m : ℕ) → message k m .live ≡ true → message k m .owner ≡ k .runner
       → masks mask (message k m .channel) ≡ false
-  unfolding nextOf
+  unfolding firstFor
   none-found e m l o =
       let r = message k m in
       cases (masks mask (r .channel))
@@ -124,7 +124,7 @@ module _ {k : Kernel} (B : Before k) {c : Call} (A : Accepted k c) where
       let n : asByte (c .c) ≡ c .c = mod-eq-of-lt (omega arith) in
       rw (t, n)
       (cases (awaits (thread k (c .b) .condition) (c .c))
-      (λ h. let D : Core (untrue k) (file (c .a) (passed (c .b) (k .runner) 0 (message k (c .a))) k) =
+      (λ h. let D : Core (untrue k) (moveMessage (c .a) (passed (c .b) (k .runner) 0 (message k (c .a))) k) =
       file-any C (c .a) (held-fine m l s refl) in
       let r : Thread = awake Wake.Met (c .a) (thread k (c .b)) in
       rw h

@@ -19,11 +19,11 @@ use Rattle.spec_kernel.specs.declared.records.Semaphore.{Semaphore}
 use Rattle.spec_kernel.specs.declared.records.Kernel.{Kernel}
 use Rattle.spec_kernel.specs.Records.{thread, message}
 use Rattle.spec_kernel.specs.Conditions.{isReady, readyFor, awaits}
-use Rattle.spec_kernel.specs.Places.{homeOf, line, nowhere, semaphoreQueue, eventQueue}
+use Rattle.spec_kernel.specs.Places.{homeOf, atHome, nowhere, semaphoreQueue, eventQueue}
 use Rattle.spec_calls.specs.declared.call.Call.{Call}
 use Rattle.spec_calls.specs.Kinds.{fromThread}
 use Rattle.spec_refusals.specs.Refusals.{inRegion}
-use Rattle.spec_moves.specs.States.{place}
+use Rattle.spec_moves.specs.States.{moveThread}
 use Rattle.spec_threads.specs.Threads.{awake, blocked, block, wake}
 use Rattle.proof_rules.proofs.Core.{Fits, FineThread, Core, untrue, live-thread, live-semaphore, condition-of, live-waiter, each-thread, place-core, place-calm}
 use Rattle.proof_rules.proofs.Ends.{Runs, Good, Before}
@@ -51,15 +51,15 @@ ready-live r e = and-eq-true-iff (r .live) (readyFor (r .condition)) .0 e .0
 
 module _ {waited : ℕ → Bool} {k : Kernel} (C : Core waited k) where
   -- ---- who stands in a list: those whose home it is
-  pub line-home : (h t : ℕ) → 0 < count t (line k h) → homeOf (thread k t) ≡ h
+  pub line-home : (h t : ℕ) → 0 < count t (atHome k h) → homeOf (thread k t) ≡ h
   line-home h t c = eqb-true (homeOf (thread k t)) h (kept (λ u. eqb (homeOf (thread k u)) h) (items (k .places)) c .0)
 
-  pub home-line : (h t : ℕ) → homeOf (thread k t) ≡ h → h < nowhere → 0 < count t (line k h)
+  pub home-line : (h t : ℕ) → homeOf (thread k t) ≡ h → h < nowhere → 0 < count t (atHome k h)
   home-line h t e b =
       rw (count-keep, C .standing .placed t, e, same, ne-eqb h nowhere (λ z. omega arith)) (omega arith)
 
   -- they are live
-  pub line-live : (h t : ℕ) → h < nowhere → 0 < count t (line k h) → thread k t .live ≡ true
+  pub line-live : (h t : ℕ) → h < nowhere → 0 < count t (atHome k h) → thread k t .live ≡ true
   unfolding homeOf
   line-live h t b c =
       cases (thread k t .live) (λ e. e) (λ e. let z : nowhere ≡ h = rw e at (line-home h t c) in absurd (omega arith))
@@ -80,7 +80,7 @@ module _ {waited : ℕ → Bool} {k : Kernel} (C : Core waited k) where
 
   -- ---- who runs in a region is ready still
   pub place-runs : (t : ℕ) → t < 32 → (r : Thread) → Runs k
-      → (0 < k .unscheduled + k .critical → k .runner ≡ t → isReady r ≡ true) → Runs (place t r k)
+      → (0 < k .unscheduled + k .critical → k .runner ≡ t → isReady r ≡ true) → Runs (moveThread t r k)
   place-runs t b r R h = λ p. each-thread C t b r (λ s. isReady s ≡ true) (k .runner) (h p) (λ _. R p)
 
   -- ---- a live thread wakes

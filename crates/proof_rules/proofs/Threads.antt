@@ -15,7 +15,7 @@ use Rattle.spec_kernel.specs.Free.{freeThread}
 use Rattle.spec_calls.specs.declared.call.Call.{Call}
 use Rattle.spec_calls.specs.Kinds.{rowOf, fromThread}
 use Rattle.spec_refusals.specs.Refusals.{badNumber, stopsCaller, blocksInRegion, noneFree}
-use Rattle.spec_moves.specs.States.{place, asByte}
+use Rattle.spec_moves.specs.States.{moveThread, asByte}
 use Rattle.spec_threads.specs.Threads.{born, withPriority, createThread, setPriority, resetPriority, yielded, sleep}
 use Rattle.proof_rules.proofs.Core.{FineThread, untrue, live-thread, place-calm, place-alike}
 use Rattle.proof_rules.proofs.Ends.{Good, Before}
@@ -32,7 +32,7 @@ born-fine p low high = record {
 
 module _ {k : Kernel} (B : Before k) where
   -- a live thread gets a priority
-  priority-good : (t p : ℕ) → thread k t .live ≡ true → 1 ≤ p → p ≤ 30 → Good (place t (withPriority p (thread k t)) k)
+  priority-good : (t p : ℕ) → thread k t .live ≡ true → 1 ≤ p → p ≤ 30 → Good (moveThread t (withPriority p (thread k t)) k)
   priority-good t p l low high =
       let C = B .core in
       let b = live-thread C t l in

@@ -22,20 +22,20 @@ use Rattle.spec_notes.specs.Same.{sameKernel}
 use Rattle.spec_notes.specs.Back.{Sections, stateBefore}
 use Rattle.spec_notes.specs.Frames.{nothing, sections, isWhole, framesFrom, framesOf}
 use Rattle.spec_notes.specs.Undo.{lastLength, hasLast, lastNote}
-use Rattle.spec_notes.specs.Undoes.{recordIn, backFrom, isDecoded, levelsFit, yieldsAgain, undoesNote, undoes}
+use Rattle.spec_notes.specs.Undoes.{callBytes, backFrom, isDecoded, levelsFit, yieldsAgain, undoesNote, undoes}
 use Rattle.code_notes.proofs.SpansOfCalls.{note-in}
-use Rattle.code_notes.proofs.Fronts.{note-short}
+use Rattle.code_notes.proofs.BeforeLength.{note-short}
 use Rattle.code_notes_back.specs.declared.state_back.Back.{Back}
 use Rattle.code_notes_back.specs.Restored.{backOf}
 use Rattle.spec_answers.specs.declared.Logged.{Logged}
 use Rattle.spec_answers.specs.Steps.{answer}
-use Rattle.spec_answers.specs.Logs.{logged, nextOf, noteFor, recorded, logAfter, undone}
+use Rattle.spec_answers.specs.Logs.{logged, stateAfter, noteFor, recorded, logAfter, undone}
 
 -- The call run again on a log of 2,048 bytes, which has room for any note: s is what comes back.
 module _ (k : Kernel) (bytes : List ℕ) (sixteen : length bytes ≡ 16) (all : length (k .threads) ≡ 32) (s : Logged) (e : s ≡ recorded k bytes (replicate 2048 0) 0) where
   room-for-any : numberOf k (callOf bytes) ≡ 0 → 0 + length (noteFor k bytes) ≤ length {A = ℕ} (replicate 2048 0)
   unfolding noteFor
-  room-for-any n = rw (length-replicate, ← note-in k bytes all n) (omega (arith, note-short k bytes (nextOf k bytes) (valueOf k (callOf bytes)) sixteen))
+  room-for-any n = rw (length-replicate, ← note-in k bytes all n) (omega (arith, note-short k bytes (stateAfter k bytes) (valueOf k (callOf bytes)) sixteen))
 
   pub run-refused : (s .answer .number ≡ 0 → ⊥) → eqb (numberOf k (callOf bytes)) 0 ≡ false
   unfolding recorded
@@ -45,7 +45,7 @@ module _ (k : Kernel) (bytes : List ℕ) (sixteen : length bytes ≡ 16) (all : 
       absurd (h (ap (λ (x : Logged). x .answer .number) e ∙ rw (z, fits)))) (λ z. z)
 
   module _ (z : s .answer .number ≡ 0) where
-    pub run-accepted : (numberOf k (callOf bytes) ≡ 0) × (s ≡ logged (answer 0 (valueOf k (callOf bytes)) (nextOf k bytes .runner)) (nextOf k bytes) (0 + length (noteFor k bytes)))
+    pub run-accepted : (numberOf k (callOf bytes) ≡ 0) × (s ≡ logged (answer 0 (valueOf k (callOf bytes)) (stateAfter k bytes .runner)) (stateAfter k bytes) (0 + length (noteFor k bytes)))
     unfolding recorded
     run-accepted =
         cases (eqb (numberOf k (callOf bytes)) 0)
@@ -55,7 +55,7 @@ module _ (k : Kernel) (bytes : List ℕ) (sixteen : length bytes ≡ 16) (all : 
         (λ y. let n : numberOf k (callOf bytes) ≡ 0 = sym (ap (λ (x : Logged). x .answer .number) e ∙ rw y) ∙ z in
         absurd (false≢true (sym y ∙ eq-eqb (numberOf k (callOf bytes)) 0 n)))
 
-    pub run-next : s .kernel ≡ nextOf k bytes
+    pub run-next : s .kernel ≡ stateAfter k bytes
     run-next = ap (λ (x : Logged). x .kernel) (run-accepted .1)
 
     -- the note stands at the front of the log
@@ -91,17 +91,17 @@ module _ (k : Kernel) (bytes : List ℕ) (end : Kernel) (note : List ℕ) where
       unfolding yieldsAgain
       again-refused n = rw (l, r, n)
 
-      module _ (n : numberOf k (callOf bytes) ≡ 0) (next : Kernel) (e : next ≡ nextOf k bytes) where
+      module _ (n : numberOf k (callOf bytes) ≡ 0) (next : Kernel) (e : next ≡ stateAfter k bytes) where
         pub again-other : sameKernel next end ≡ false → false ≡ yieldsAgain k bytes end note
         unfolding yieldsAgain
         again-other h =
-            let o : sameKernel (nextOf k bytes) end ≡ false = ap (λ (u : Kernel). sameKernel u end) (sym e) ∙ h in
+            let o : sameKernel (stateAfter k bytes) end ≡ false = ap (λ (u : Kernel). sameKernel u end) (sym e) ∙ h in
             rw (l, r, n, o)
 
         pub again-note : sameKernel next end ≡ true → sameRow (noteFor k bytes) note ≡ yieldsAgain k bytes end note
         unfolding yieldsAgain noteFor
         again-note h =
-            let o : sameKernel (nextOf k bytes) end ≡ true = ap (λ (u : Kernel). sameKernel u end) (sym e) ∙ h in
+            let o : sameKernel (stateAfter k bytes) end ≡ true = ap (λ (u : Kernel). sameKernel u end) (sym e) ∙ h in
             rw (l, r, n, o, and-true)
 
 -- ---- the frame
@@ -124,31 +124,31 @@ module _ (k : Kernel) (note : List ℕ) where
         let f : nothing ≡ sections x = rw (n, none-whole) at e in
         absurd (false≢true (ap isDecoded f))) (λ b. ltb-false (length note) 16 b)
 
-    pub framed-back : backFrom k note ≡ stateBefore (callOf (recordIn note)) k x
+    pub framed-back : backFrom k note ≡ stateBefore (callOf (callBytes note)) k x
     unfolding backFrom
     framed-back = rw e
 
-    pub framed-undoes : undoesNote k note ≡ yieldsAgain (stateBefore (callOf (recordIn note)) k x) (recordIn note) k note
+    pub framed-undoes : undoesNote k note ≡ yieldsAgain (stateBefore (callOf (callBytes note)) k x) (callBytes note) k note
     unfolding undoesNote backFrom
     framed-undoes = rw e
 
     -- what comes back of the note, by the two tests of the state before
     module _ (before used : ℕ) where
       abbrev old : Kernel
-      old = stateBefore (callOf (recordIn note)) k x
+      old = stateBefore (callOf (callBytes note)) k x
 
       abbrev left : Logged
       left =
           cond (undoesNote k note) (logged (answer 0 255 (backFrom k note .runner)) (backFrom k note) before)
           (logged (answer 15 255 (k .runner)) k used)
 
-      pub left-other : yieldsAgain old (recordIn note) k note ≡ false → logged (answer 15 255 (k .runner)) k used ≡ left
+      pub left-other : yieldsAgain old (callBytes note) k note ≡ false → logged (answer 15 255 (k .runner)) k used ≡ left
       left-other h = rw (framed-undoes, h)
 
       pub left-unfit : levelsFit old ≡ false → logged (answer 15 255 (k .runner)) k used ≡ left
-      left-unfit h = left-other (levels-pass old (recordIn note) k note h)
+      left-unfit h = left-other (levels-pass old (callBytes note) k note h)
 
-      pub left-back : yieldsAgain old (recordIn note) k note ≡ true → logged (answer 0 255 (old .runner)) old before ≡ left
+      pub left-back : yieldsAgain old (callBytes note) k note ≡ true → logged (answer 0 255 (old .runner)) old before ≡ left
       left-back h = rw (framed-undoes, h, framed-back)
 
 -- the two fields of what is read back

@@ -47,7 +47,7 @@ fn undo_note(k: Kernel, note: &[u8], before: usize, used: usize) -> Logged
     let Decoded::Sections(f) = frames::frames_of(note) else {
         return refused(15, k.runner, k, used);
     };
-    let bytes = last::record_in(note);
+    let bytes = last::call_bytes(note);
     let back = state_back::state_before(call::call_of(bytes), k, note, f);
     if !back.fits {
         return refused(15, k.runner, k, used);

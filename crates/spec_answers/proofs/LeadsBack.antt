@@ -23,7 +23,7 @@ use Rattle.spec_notes.proofs.Yields.{yields-kept}
 use Rattle.spec_notes.proofs.Undoing.{state-found}
 use Rattle.spec_answers.specs.declared.Logged.{Logged}
 use Rattle.spec_answers.specs.Steps.{answer}
-use Rattle.spec_answers.specs.Logs.{logged, nextOf, noteFor, undone}
+use Rattle.spec_answers.specs.Logs.{logged, stateAfter, noteFor, undone}
 use Rattle.spec_answers.specs.Runs.{IsRecord, AreRecords, Noted, Trail, trailed, trail, backTimes, stateAt}
 use Rattle.spec_answers.specs.Runs.{Point, Run, begun, next, run, undoneTimes}
 use Rattle.spec_answers.specs.Promises.{UndoneIsThat, NotesLeadBack, LogLeadsBack}
@@ -35,7 +35,7 @@ Kept k = Sized k × Rules k × Within k
 
 -- an accepted call yields the next state and its note
 yields-next : (k : Kernel) (bytes : List ℕ) → Kept k → IsRecord bytes → numberOf k (callOf bytes) ≡ 0
-    → Yields k bytes (nextOf k bytes) (noteFor k bytes)
+    → Yields k bytes (stateAfter k bytes) (noteFor k bytes)
 unfolding noteFor
 yields-next k bytes (Z, R, W) (n, b) a =
     record { sized = Z; inside = W; rules = R; sixteen = n; small = b; accepted = a; state = refl; noted = refl }
@@ -63,7 +63,7 @@ trailed-good t bytes (K, L) b =
     let n = numberOf (t .kernel) (callOf bytes) in
     cases (eqb n 0)
     (λ e. let Y = yields-next (t .kernel) bytes K b (eqb-true n 0 e) in
-    rw e (kept-next Y, (state-found (nextOf (t .kernel) bytes) (noteFor (t .kernel) bytes) Y, L)))
+    rw e (kept-next Y, (state-found (stateAfter (t .kernel) bytes) (noteFor (t .kernel) bytes) Y, L)))
     (λ e. rw e (K, L))
 
 trail-good : (records : List (List ℕ)) (t : Trail) → GoodTrail t → AreRecords records → GoodTrail (trail t records)
@@ -101,7 +101,7 @@ module _ (log : List ℕ) (p q : Point) (L : Link log p q) where
       rw (← append-assoc, ← L .stands) (take-append-drop (p .used) log) in
       let size : length (take (q .used) log) + length note ≡ p .used = rw (length-take-le (q .used) log (omega arith)) (sym e) in
       rw (whole, size) at
-      (last-back (q .kernel) (L .call) (nextOf (q .kernel) (L .call)) (L .yields .sixteen) (take (q .used) log) (drop (p .used) log))
+      (last-back (q .kernel) (L .call) (stateAfter (q .kernel) (L .call)) (L .yields .sixteen) (take (q .used) log) (drop (p .used) log))
 
   -- so an undo there leads to q
   link-undone : undone (p .kernel) log (p .used) ≡ reached q

@@ -13,7 +13,7 @@ use Rattle.spec_semaphores.specs.Semaphores.{createSemaphore, destroySemaphore,
 use Rattle.spec_events.specs.Events.{workedOut, loadEvent, pendEvent, setBit, clearBit}
 use Rattle.spec_messages.specs.Messages.{createMessage, destroyMessage, handOver, postMessage, receive, pendMessage}
 use Rattle.spec_time.specs.Time.{pulse, pulseFrom, tick}
-use Rattle.spec_effects.specs.Effects.{Kind, noKind, kinds, effect}
+use Rattle.spec_effects.specs.Effects.{Kind, noKind, effectsOfKinds, effect}
 
 -- where both ways leave the runner, it stays
 cond-runner : (b : Bool) (x y : Kernel) → cond b x y .runner ≡ cond b (x .runner) (y .runner)
@@ -46,7 +46,7 @@ module _ (k : Kernel) (c : Call) where
   abbrev runners : List Kind → List ℕ
   runners l = map (λ x. x .does k c .runner) l
 
-  same-runners : runners kinds ≡ map (λ x. k .runner) kinds
+  same-runners : runners effectsOfKinds ≡ map (λ x. k .runner) effectsOfKinds
   unfolding tick createThread freeMessages destroyThread setPriority resetPriority yielded sleep block pushUnscheduled popUnscheduled popAllUnscheduled pushCritical popCritical popAllCritical createSemaphore destroySemaphore makePeriodic removePeriodic pendSemaphore postSemaphore workedOut loadEvent pendEvent setBit clearBit createMessage destroyMessage handOver postMessage receive pendMessage
   same-runners = simp (cond-runner, post-runner, pulses-runner, both)
 
@@ -57,4 +57,4 @@ module _ (k : Kernel) (c : Call) where
 
   pub effect-runner : effect k c .runner ≡ k .runner
   unfolding effect
-  effect-runner = runner-at kinds same-runners (c .kind)
+  effect-runner = runner-at effectsOfKinds same-runners (c .kind)

@@ -24,7 +24,7 @@ use Rattle.spec_notes.proofs.Yields.{call-within}
 use Rattle.spec_notes.proofs.Undoing.{state-found, last-sizes, yields-last, yields-undoes, undo-exactly}
 use Rattle.spec_answers.specs.declared.Logged.{Logged}
 use Rattle.spec_answers.specs.Steps.{Stepped, answer, accepted, refused, step, called}
-use Rattle.spec_answers.specs.Logs.{logged, nextOf, noteFor, recorded, logAfter, partAfter, calledWith, logCalled, partCalled, backAt, undone}
+use Rattle.spec_answers.specs.Logs.{logged, stateAfter, noteFor, recorded, logAfter, partAfter, calledWith, logCalled, partCalled, backAt, undone}
 use Rattle.spec_answers.specs.Promises.{ThirteenExactly, AnsweredAlike, RefusalLeavesLog, UndoneExactly, UndoneIsThat, UndoRefused, NotesAreShort}
 use Rattle.spec_answers.proofs.Kept.{never-given, number-is}
 
@@ -43,7 +43,7 @@ module _ (k : Kernel) (bytes log : List ℕ) (used : ℕ) (P : Logged → List �
   -- the next state and the note behind the used part
   abbrev Written : Type 0
   Written =
-      P (logged (answer 0 (valueOf k (callOf bytes)) (nextOf k bytes .runner)) (nextOf k bytes) (used + length note))
+      P (logged (answer 0 (valueOf k (callOf bytes)) (stateAfter k bytes .runner)) (stateAfter k bytes) (used + length note))
       (withNote log used note) note (accepted k (callOf bytes))
 
   -- the same state and the same log

@@ -21,12 +21,12 @@ abbrev pub logged : Answer → Kernel → ℕ → Logged
 logged x k used = record { answer = x; kernel = k; used = used }
 
 -- the state after the call, where it is accepted
-abbrev pub nextOf : Kernel → List ℕ → Kernel
-nextOf k bytes = nextState k (callOf bytes)
+abbrev pub stateAfter : Kernel → List ℕ → Kernel
+stateAfter k bytes = nextState k (callOf bytes)
 
 -- its note
 unfoldable pub noteFor : Kernel → List ℕ → List ℕ
-noteFor k bytes = noteOf k bytes (nextOf k bytes)
+noteFor k bytes = noteOf k bytes (stateAfter k bytes)
 
 -- ---- on a state that keeps its rules
 -- "13: the note is longer than the log's unused room"; it comes after every other number
@@ -34,7 +34,7 @@ unfoldable pub recorded : Kernel → List ℕ → List ℕ → ℕ → Logged
 recorded k bytes log used =
     cond (eqb (numberOf k (callOf bytes)) 0)
     (cond (room log used (noteFor k bytes))
-    (logged (answer 0 (valueOf k (callOf bytes)) (nextOf k bytes .runner)) (nextOf k bytes) (used + length (noteFor k bytes)))
+    (logged (answer 0 (valueOf k (callOf bytes)) (stateAfter k bytes .runner)) (stateAfter k bytes) (used + length (noteFor k bytes)))
     (logged (answer 13 255 (k .runner)) k used))
     (logged (answer (numberOf k (callOf bytes)) 255 (k .runner)) k used)
 

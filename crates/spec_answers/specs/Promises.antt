@@ -17,7 +17,7 @@ use Rattle.spec_notes.specs.Counts.{mostBytes}
 use Rattle.spec_notes.specs.Undo.{lastNote, Yields}
 use Rattle.spec_answers.specs.declared.Logged.{Logged}
 use Rattle.spec_answers.specs.Steps.{answer, called}
-use Rattle.spec_answers.specs.Logs.{logged, nextOf, noteFor, calledWith, logCalled, partCalled, undone}
+use Rattle.spec_answers.specs.Logs.{logged, stateAfter, noteFor, calledWith, logCalled, partCalled, undone}
 use Rattle.spec_answers.specs.Runs.{AreRecords, trail, backTimes, stateAt, begun, run, undoneTimes, pointAt}
 
 -- ---- Demand 1: "Any sixteen bytes may arrive as a call, with any state. Each is answered."
@@ -132,7 +132,7 @@ unfoldable pub NotesAreShort : Type 0
 NotesAreShort =
     (k : Kernel) (bytes : List ℕ) → Sized k → Rules k → Within k → length bytes ≡ 16 → ((i : ℕ) → getD bytes i 0 < 256)
     → called k bytes .answer .number ≡ 0
-    → length (noteFor k bytes) ≤ mostBytes k (nextOf k bytes)
+    → length (noteFor k bytes) ≤ mostBytes k (stateAfter k bytes)
 
 -- "From any state that keeps the state rules, after any list of calls (refused ones among them) with all notes kept: undoing the
 -- last k notes gives exactly the state before the last k accepted calls, for each k." Over lists of notes:

@@ -11,7 +11,7 @@ use Rattle.spec_refusals.specs.Refusals.{numberOf}
 use Rattle.spec_notes.specs.Undoes.{backFrom}
 use Rattle.spec_answers.specs.declared.Logged.{Logged}
 use Rattle.spec_answers.specs.Steps.{answer}
-use Rattle.spec_answers.specs.Logs.{logged, nextOf, noteFor, recorded, logAfter, undone}
+use Rattle.spec_answers.specs.Logs.{logged, stateAfter, noteFor, recorded, logAfter, undone}
 
 -- sixteen bytes
 abbrev pub IsRecord : List ℕ → Type 0
@@ -38,7 +38,7 @@ unfoldable pub trailed : Trail → List ℕ → Trail
 trailed t bytes =
     cond (isAccepted (t .kernel) bytes)
     (record {
-      kernel = nextOf (t .kernel) bytes;
+      kernel = stateAfter (t .kernel) bytes;
       kept = record { before = t .kernel; note = noteFor (t .kernel) bytes } ∷ t .kept;
     })
     t

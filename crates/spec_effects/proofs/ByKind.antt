@@ -11,7 +11,7 @@ use borrow.Table.Steps.{cases}
 use Rattle.spec_kernel.specs.declared.records.Kernel.{Kernel}
 use Rattle.spec_moves.proofs.Joins.{past-end}
 use Rattle.spec_calls.specs.declared.call.Call.{Call}
-use Rattle.spec_effects.specs.Effects.{Kind, kinds, noKind, effect, valueOf}
+use Rattle.spec_effects.specs.Effects.{Kind, effectsOfKinds, noKind, effect, valueOf}
 
 -- n is none of 1 to m
 abbrev pub NoneOf : ℕ → ℕ → Type 0
@@ -29,22 +29,22 @@ getD-same (suc m) zero a = refl
 getD-same (suc m) (suc n) a = getD-same m n a
 
 module _ (k : Kernel) (c : Call) where
-  pub does-at : (n : ℕ) → c .kind ≡ n → getD kinds n noKind .does k c ≡ effect k c
+  pub does-at : (n : ℕ) → c .kind ≡ n → getD effectsOfKinds n noKind .does k c ≡ effect k c
   unfolding effect
   does-at n e = rw e
 
   -- past the last kind nothing is done
   pub does-past : 31 ≤ c .kind → k ≡ effect k c
   does-past h =
-      let z = past-end kinds noKind {k = 31} {u = c .kind} refl h in
+      let z = past-end effectsOfKinds noKind {k = 31} {u = c .kind} refl h in
       ap (λ (d : Kind). d .does k c) (sym z) ∙ does-at (c .kind) refl
 
-  pub value-at : (n : ℕ) → c .kind ≡ n → getD kinds n noKind .value k c ≡ valueOf k c
+  pub value-at : (n : ℕ) → c .kind ≡ n → getD effectsOfKinds n noKind .value k c ≡ valueOf k c
   unfolding valueOf
   value-at n e = rw e
 
   values : List ℕ
-  values = map (λ (d : Kind). d .value k c) kinds
+  values = map (λ (d : Kind). d .value k c) effectsOfKinds
 
   -- no other kind gives anything
   pub value-none : (c .kind ≡ 2 → ⊥) → (c .kind ≡ 14 → ⊥) → (c .kind ≡ 24 → ⊥) → (c .kind ≡ 27 → ⊥) → 255 ≡ valueOf k c
@@ -57,4 +57,4 @@ module _ (k : Kernel) (c : Call) where
       let z : getD values n 255 ≡ 255 =
       sym (getD-set-other values 2 n 255 255 a) ∙ sym (getD-set-other l 14 n 255 255 b)
       ∙ sym (getD-set-other m 24 n 255 255 d) ∙ sym (getD-set-other s 27 n 255 255 e) ∙ getD-same 31 n 255 in
-      sym z ∙ List·getD-map (λ (d : Kind). d .value k c) kinds n noKind ∙ value-at n refl
+      sym z ∙ List·getD-map (λ (d : Kind). d .value k c) effectsOfKinds n noKind ∙ value-at n refl

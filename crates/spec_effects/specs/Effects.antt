@@ -28,8 +28,8 @@ abbrev pub noKind : Kind
 noKind = plain (λ k c. k)
 
 -- "A value (created id, message received at once, else 255)."
-abbrev pub kinds : List Kind
-kinds =
+abbrev pub effectsOfKinds : List Kind
+effectsOfKinds =
     noKind
     ∷ plain tick  -- 1
     ∷ giving freeThread createThread  -- 2
@@ -64,7 +64,7 @@ kinds =
     ∷ []
 
 unfoldable pub effect : Kernel → Call → Kernel
-effect k c = getD kinds (c .kind) noKind .does k c
+effect k c = getD effectsOfKinds (c .kind) noKind .does k c
 
 unfoldable pub valueOf : Kernel → Call → ℕ
-valueOf k c = getD kinds (c .kind) noKind .value k c
+valueOf k c = getD effectsOfKinds (c .kind) noKind .value k c

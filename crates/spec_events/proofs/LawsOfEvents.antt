@@ -21,10 +21,10 @@ use Rattle.spec_kernel.specs.declared.records.Event.{Event}
 use Rattle.spec_kernel.specs.declared.records.Kernel.{Kernel}
 use Rattle.spec_moves.specs.declared.parts.Threads.{Threads}
 use Rattle.spec_kernel.specs.Records.{thread, event, noEvent}
-use Rattle.spec_kernel.specs.Places.{eventHome, line, readyList, semaphoreQueue, eventQueue, timeQueue}
+use Rattle.spec_kernel.specs.Places.{eventHome, atHome, readyList, semaphoreQueue, eventQueue, timeQueue}
 use Rattle.spec_kernel.specs.Truth.{isTrue}
-use Rattle.spec_moves.specs.Moves.{recordIn}
-use Rattle.spec_moves.specs.Standing.{threadsOf, lineIn, Standing}
+use Rattle.spec_moves.specs.Moves.{threadIn}
+use Rattle.spec_moves.specs.Standing.{threadsOf, atHomeIn, Standing}
 use Rattle.spec_calls.specs.declared.call.Call.{Call}
 use Rattle.spec_moves.specs.States.{withEvents, each}
 use Rattle.spec_events.specs.Events.{wakeIn, wokenIn, workOut, workOutFrom, workedOut, loadEvent, pendEvent, setBit, clearBit}
@@ -37,7 +37,7 @@ use Rattle.spec_threads.proofs.LawsOfBlocking.{Blocked, block-blocks, block-onl
 -- the waiters of those of n events from i on that are TRUE: in id order, and of each in queue order
 unfoldable pub waitersFrom : (ℕ → Bool) → Threads → ℕ → ℕ → List ℕ
 waitersFrom met p i zero = []
-waitersFrom met p i (suc n) = cond (met i) (lineIn p (eventHome i)) [] ++ waitersFrom met p (suc i) n
+waitersFrom met p i (suc n) = cond (met i) (atHomeIn p (eventHome i)) [] ++ waitersFrom met p (suc i) n
 
 -- event i is TRUE
 abbrev pub isMet : Kernel → ℕ → Bool
@@ -69,7 +69,7 @@ pub record WorkedOut (k k′ : Kernel) : Type 0 where
 
 -- every priority is a byte
 abbrev pub Bytes : Threads → Type 0
-Bytes p = (t : ℕ) → recordIn p t .priority < 256
+Bytes p = (t : ℕ) → threadIn p t .priority < 256
 
 -- those of a, then those of b
 each-append : (f : ℕ → Threads → Threads) (a b : List ℕ) (p : Threads) → each f (a ++ b) p ≡ each f b (each f a p)
@@ -87,7 +87,7 @@ record Waits (met : ℕ → Bool) (p : Threads) (i n t : ℕ) : Type 0 where
   from : i ≤ event
   to : event < i + n
   holds : met event ≡ true
-  there : 0 < count t (lineIn p (eventHome event))
+  there : 0 < count t (atHomeIn p (eventHome event))
 
 module _ (met : ℕ → Bool) {p : Threads} (S : Standing p) (t : ℕ) where
   -- each waits for a TRUE one
@@ -95,17 +95,17 @@ module _ (met : ℕ → Bool) {p : Threads} (S : Standing p) (t : ℕ) where
   unfolding waitersFrom
   waiter-waits i zero c = absurd (omega arith)
   waiter-waits i (suc n) c =
-      let l = cond (met i) (lineIn p (eventHome i)) [] in
+      let l = cond (met i) (atHomeIn p (eventHome i)) [] in
       let d = rw count-append at c in
       cases (ltb 0 (count t l))
       (λ e. cases (met i)
-      (λ m. record { event = i; from = omega arith; to = omega arith; holds = m; there = ltb-true 0 (count t (lineIn p (eventHome i))) (rw m at e) })
+      (λ m. record { event = i; from = omega arith; to = omega arith; holds = m; there = ltb-true 0 (count t (atHomeIn p (eventHome i))) (rw m at e) })
       (λ m. absurd (false≢true (rw m at e))))
       (λ e. let W = waiter-waits (suc i) n (omega (arith, ltb-false)) in
       record { event = W .event; from = omega (arith, W .from); to = omega (arith, W .to); holds = W .holds; there = W .there })
 
   -- who waits for one is among them
-  waits-waiter : (i n j : ℕ) → i ≤ j → j < i + n → met j ≡ true → 0 < count t (lineIn p (eventHome j)) → 0 < count t (waitersFrom met p i n)
+  waits-waiter : (i n j : ℕ) → i ≤ j → j < i + n → met j ≡ true → 0 < count t (atHomeIn p (eventHome j)) → 0 < count t (waitersFrom met p i n)
   unfolding waitersFrom
   waits-waiter i zero j a b m c = absurd (omega arith)
   waits-waiter i (suc n) j a b m c =
@@ -138,7 +138,7 @@ module _ (events : List Event) (bits : ℕ) where
 
   module _ {p : Threads} (S : Standing p) (B : Bytes p) where
     -- the waiters of one event are each named once, and wait
-    line-called : (i : ℕ) → Called p (lineIn p (eventHome i))
+    line-called : (i : ℕ) → Called p (atHomeIn p (eventHome i))
     line-called i t c = (omega (arith, line-once S t (eventHome i)), line-stopped S t (B t) (omega arith) c)
 
     waiters-called : (i n : ℕ) → Called p (waitersFrom met p i n)
@@ -149,22 +149,22 @@ module _ (events : List Event) (bits : ℕ) where
     -- once one event is worked out all stand in place, and the priorities and the later events' queues are as they were
     line-stands : (i : ℕ) → Standing (wokenIn (eventHome i) p)
     unfolding wokenIn wakeIn
-    line-stands i = each-woken asMet (lineIn p (eventHome i)) S (line-called i) .standing
+    line-stands i = each-woken asMet (atHomeIn p (eventHome i)) S (line-called i) .standing
 
     line-bytes : (i : ℕ) → Bytes (wokenIn (eventHome i) p)
     unfolding wokenIn wakeIn
     line-bytes i t =
-        let A = each-woken asMet (lineIn p (eventHome i)) S (line-called i) in
-        cases (ltb 0 (count t (lineIn p (eventHome i))))
+        let A = each-woken asMet (atHomeIn p (eventHome i)) S (line-called i) in
+        cases (ltb 0 (count t (atHomeIn p (eventHome i))))
         (λ e. rw (A .woken t (ltb-true 0 _ e)) (B t))
         (λ e. rw (A .others t (omega (arith, ltb-false))) (B t))
 
-    line-later : (i j : ℕ) → i < j → lineIn (wokenIn (eventHome i) p) (eventHome j) ≡ lineIn p (eventHome j)
+    line-later : (i j : ℕ) → i < j → atHomeIn (wokenIn (eventHome i) p) (eventHome j) ≡ atHomeIn p (eventHome j)
     unfolding wokenIn wakeIn
     line-later i j b =
-        let A = each-woken asMet (lineIn p (eventHome i)) S (line-called i) in
+        let A = each-woken asMet (atHomeIn p (eventHome i)) S (line-called i) in
         A .queues (eventHome j) (omega arith)
-        ∙ keep-all (lineIn p (eventHome j)) (λ t c. rw (line-absent S t (eventHome i) (λ z. omega (arith, line-home S t (eventHome j) c))))
+        ∙ keep-all (atHomeIn p (eventHome j)) (λ t c. rw (line-absent S t (eventHome i) (λ z. omega (arith, line-home S t (eventHome j) c))))
 
     waiters-later : (i j n : ℕ) → i < j → waitersFrom met (wokenIn (eventHome i) p) j n ≡ waitersFrom met p j n
     unfolding waitersFrom
@@ -201,10 +201,10 @@ module _ (events : List Event) (bits : ℕ) where
         (λ e. omega (arith, ltb-false))
 
     -- a queue that is no TRUE event's is as it was
-    queue-stays : (h : ℕ) → 256 ≤ h → ((i : ℕ) → i < 8 → met i ≡ true → h ≡ eventHome i → ⊥) → line after h ≡ line k h
+    queue-stays : (h : ℕ) → 256 ≤ h → ((i : ℕ) → i < 8 → met i ≡ true → h ≡ eventHome i → ⊥) → atHome after h ≡ atHome k h
     queue-stays h b ne =
         all-woken .queues h b
-        ∙ keep-all (line k h) (λ t c. rw (uncalled t (λ i s m. line-absent S t (eventHome i) (λ z. ne i s m (sym (line-home S t h c) ∙ z)))))
+        ∙ keep-all (atHome k h) (λ t c. rw (uncalled t (λ i s m. line-absent S t (eventHome i) (λ z. ne i s m (sym (line-home S t h c) ∙ z)))))
 
     works-out : WorkedOut k after
     unfolding workedOut

@@ -13,19 +13,19 @@ use Rattle.spec_moves.specs.declared.parts.Threads.{Threads}
 use Rattle.spec_kernel.specs.Records.{event, noEvent}
 use Rattle.spec_kernel.specs.Places.{eventHome}
 use Rattle.spec_kernel.specs.Truth.{isTrue}
-use Rattle.spec_moves.specs.Moves.{relocate, recordIn}
-use Rattle.spec_moves.specs.Standing.{threadsOf, lineIn}
+use Rattle.spec_moves.specs.Moves.{relocate, threadIn}
+use Rattle.spec_moves.specs.Standing.{threadsOf, atHomeIn}
 use Rattle.spec_calls.specs.declared.call.Call.{Call}
 use Rattle.spec_moves.specs.States.{withThreads, withEvent, withBits, each}
 use Rattle.spec_threads.specs.Threads.{awake, block}
 
 -- thread t wakes as met
 unfoldable pub wakeIn : ℕ → Threads → Threads
-wakeIn t p = relocate t (awake Wake.Met (recordIn p t .reply) (recordIn p t)) p
+wakeIn t p = relocate t (awake Wake.Met (threadIn p t .reply) (threadIn p t)) p
 
 -- all that stand in a queue wake, in queue order
 unfoldable pub wokenIn : ℕ → Threads → Threads
-wokenIn home p = each wakeIn (lineIn p home) p
+wokenIn home p = each wakeIn (atHomeIn p home) p
 
 -- "each TRUE one wakes all its waiters in queue order"
 unfoldable pub workOut : List Event → ℕ → ℕ → Threads → Threads

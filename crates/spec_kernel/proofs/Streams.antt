@@ -18,7 +18,7 @@ use Rattle.spec_kernel.specs.declared.records.Kernel.{Kernel}
 use Rattle.spec_kernel.specs.Records.{noMessage, message}
 use Rattle.spec_kernel.specs.Conditions.{masks}
 use Rattle.spec_kernel.specs.Places.{streamOf, channel}
-use Rattle.spec_kernel.specs.Channels.{maskedFrom, lowestMasked, isFor, nextOf}
+use Rattle.spec_kernel.specs.Channels.{maskedFrom, lowestMasked, isFor, firstFor}
 
 -- a list without members
 nobody : (l : List ℕ) → ((u : ℕ) → 0 < count u l → ⊥) → l ≡ []
@@ -105,8 +105,8 @@ module _ (k : Kernel) (t mask : ℕ) where
     )
 
     -- "Pend takes the oldest of the lowest masked channel that has one"
-    pub next-lowest : nextOf (k .messages) (k .posted) t mask ≡ lowestMasked k t mask
-    unfolding nextOf lowestMasked
+    pub next-lowest : firstFor (k .messages) (k .posted) t mask ≡ lowestMasked k t mask
+    unfolding firstFor lowestMasked
     next-lowest = go mine refl
       where
         go : (l : List ℕ) → mine ≡ l → firstOf mine ≡ firstOf (maskedFrom k t mask 1 15)

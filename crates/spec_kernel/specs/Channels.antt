@@ -26,9 +26,9 @@ abbrev pub isFor : ℕ → ℕ → Message → Bool
 isFor t mask r = eqb (r .owner) t && masks mask (r .channel)
 
 -- the first of the posted messages that thread t may take; in a state that keeps the rules this is the one above
-unfoldable pub nextOf : List Message → Queue → ℕ → ℕ → ℕ
-nextOf messages posted t mask = firstOf (keep (λ m. isFor t mask (getD messages m noMessage)) (items posted))
+unfoldable pub firstFor : List Message → Queue → ℕ → ℕ → ℕ
+firstFor messages posted t mask = firstOf (keep (λ m. isFor t mask (getD messages m noMessage)) (items posted))
 
 -- the running thread's
 abbrev pub nextMessage : Kernel → ℕ → ℕ
-nextMessage k mask = nextOf (k .messages) (k .posted) (k .runner) mask
+nextMessage k mask = firstFor (k .messages) (k .posted) (k .runner) mask

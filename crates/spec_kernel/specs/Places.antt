@@ -46,19 +46,19 @@ unfoldable pub rankOf : Thread → ℕ
 rankOf r = homeOf r * 256 + r .priority
 
 -- the threads whose home is h, in their order
-abbrev pub line : Kernel → ℕ → List ℕ
-line k h = keep (λ t. eqb (homeOf (thread k t)) h) (items (k .places))
+abbrev pub atHome : Kernel → ℕ → List ℕ
+atHome k h = keep (λ t. eqb (homeOf (thread k t)) h) (items (k .places))
 
 -- a priority's ready list
 abbrev pub readyList : Kernel → ℕ → List ℕ
-readyList k priority = line k (readyHome priority)
+readyList k priority = atHome k (readyHome priority)
 
 -- a semaphore's queue, and an event's
 abbrev pub semaphoreQueue : Kernel → ℕ → List ℕ
-semaphoreQueue k i = line k (semaphoreHome i)
+semaphoreQueue k i = atHome k (semaphoreHome i)
 
 abbrev pub eventQueue : Kernel → ℕ → List ℕ
-eventQueue k i = line k (eventHome i)
+eventQueue k i = atHome k (eventHome i)
 
 -- the time queue
 abbrev pub timeQueue : Kernel → List ℕ

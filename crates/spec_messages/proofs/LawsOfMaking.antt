@@ -10,7 +10,7 @@ use Rattle.spec_moves.specs.Standing.{postsOf}
 use Rattle.spec_moves.proofs.Posts.{repost-same, repost-other}
 use Rattle.spec_kernel.specs.Free.{freeMessage}
 use Rattle.spec_calls.specs.declared.call.Call.{Call}
-use Rattle.spec_moves.specs.States.{file}
+use Rattle.spec_moves.specs.States.{moveMessage}
 use Rattle.spec_kernel.specs.WordsOfLaws.{OnlyMessages, OtherMessages}
 use Rattle.spec_messages.specs.Messages.{createMessage, destroyMessage}
 
@@ -20,7 +20,7 @@ pub record MadeMessage (m : ℕ) (r : Message) (k k′ : Kernel) : Type 0 where
   pub others : OtherMessages m k k′
   pub only : OnlyMessages k k′
 
-make-message : (k : Kernel) (m : ℕ) (r : Message) → length (k .messages) ≡ 64 → m < 64 → MadeMessage m r k (file m r k)
+make-message : (k : Kernel) (m : ℕ) (r : Message) → length (k .messages) ≡ 64 → m < 64 → MadeMessage m r k (moveMessage m r k)
 make-message k m r e b =
     record {
       made = repost-same (postsOf k) m r e b;

@@ -23,9 +23,9 @@ use Rattle.spec_kernel.specs.Places.{nowhere, isQueued, streamOf, onChannel, ch
 use Rattle.spec_moves.specs.Standing.{threadsOf, postsOf, Standing, Filed}
 use Rattle.spec_moves.proofs.Joins.{past-end}
 use Rattle.spec_moves.proofs.Posts.{repost-same, repost-other, repost-joins-channel, repost-leaves-channel}
-use Rattle.spec_kernel.specs.Channels.{isFor, nextOf, nextMessage}
+use Rattle.spec_kernel.specs.Channels.{isFor, firstFor, nextMessage}
 use Rattle.spec_calls.specs.declared.call.Call.{Call}
-use Rattle.spec_moves.specs.States.{file}
+use Rattle.spec_moves.specs.States.{moveMessage}
 use Rattle.spec_messages.specs.Messages.{handOver, postMessage, receive, pendMessage}
 use Rattle.spec_kernel.specs.WordsOfLaws.{Stopped, Runnable, handed, SameEvents, SameScheduler, OnlyThreads, OnlyMessages, OtherMessages}
 use Rattle.spec_threads.proofs.LawsOfLists.{keep-once, keep-missing, keep-absent, without-first}
@@ -63,8 +63,8 @@ module _ (k : Kernel) (t mask : ℕ) where
       (λ z. simp (z, and-false))))
 
   -- where every masked channel is empty, none
-  next-none : ((c : ℕ) → masks mask c ≡ true → channel k t c ≡ []) → nextOf (k .messages) (k .posted) t mask ≡ 255
-  unfolding nextOf
+  next-none : ((c : ℕ) → masks mask c ≡ true → channel k t c ≡ []) → firstFor (k .messages) (k .posted) t mask ≡ 255
+  unfolding firstFor
   next-none h = go mine refl
     where
       go : (x : List ℕ) → mine ≡ x → firstOf mine ≡ 255
@@ -76,8 +76,8 @@ module _ (k : Kernel) (t mask : ℕ) where
   -- "Pend takes the oldest of the lowest masked channel that has one."
   module _ (F : Filed (postsOf k)) (c m : ℕ) (l : List ℕ) (e : masks mask c ≡ true) (oldest : channel k t c ≡ m ∷ l)
       (lowest : (d : ℕ) → d < c → masks mask d ≡ true → channel k t d ≡ []) where
-    pub next-oldest : nextOf (k .messages) (k .posted) t mask ≡ m
-    unfolding nextOf streamOf
+    pub next-oldest : firstFor (k .messages) (k .posted) t mask ≡ m
+    unfolding firstFor streamOf
     next-oldest = go mine refl
       where
         there : 0 < count m (channel k t c)
@@ -120,11 +120,11 @@ module _ (k : Kernel) (F : Filed (postsOf k)) (m : ℕ) where
   held-absent e u d = keep-absent (λ n. onChannel u d (message k n)) (items (k .posted)) m (F .placed m ∙ rw e)
 
   -- who comes to be held is out of every channel
-  held-leaves : m < 64 → (r : Message) → r .channel ≡ 0 → (u d : ℕ) → 0 < d → channel (file m r k) u d ≡ without m (channel k u d)
+  held-leaves : m < 64 → (r : Message) → r .channel ≡ 0 → (u d : ℕ) → 0 < d → channel (moveMessage m r k) u d ≡ without m (channel k u d)
   held-leaves id r h u d b = repost-leaves-channel (postsOf k) m r F id u d (elsewhere r u d (λ _ z. omega arith))
 
 -- nothing but messages changes
-file-only : (m : ℕ) (r : Message) (k : Kernel) → OnlyMessages k (file m r k)
+file-only : (m : ℕ) (r : Message) (k : Kernel) → OnlyMessages k (moveMessage m r k)
 file-only m r k = record {
   threads = record { records = refl; places = refl; time = refl };
   semaphores = refl;
@@ -241,7 +241,7 @@ module _ (k : Kernel) (F : Filed (postsOf k)) (call : Call) (live : message k (c
         let r = handed (call .b) (k .runner) 0 (message k m) in
         rw (mod-eq-of-lt thread-byte, mod-eq-of-lt channel-byte, awaited)
         (record {
-          woken = move-wakes k S (call .b) recipient Wake.Met m (file m r k);
+          woken = move-wakes k S (call .b) recipient Wake.Met m (moveMessage m r k);
           itself = repost-same (postsOf k) m r (F .count) id;
           channels = λ u d b. held-leaves k F m id r refl u d b ∙ held-absent k F m held u d;
           others = λ n ne. repost-other (postsOf k) m r ne;

@@ -11,7 +11,7 @@ use Rattle.spec_kernel.specs.Conditions.{awaits}
 use Rattle.spec_kernel.specs.Free.{freeMessage}
 use Rattle.spec_kernel.specs.Channels.{nextMessage}
 use Rattle.spec_calls.specs.declared.call.Call.{Call}
-use Rattle.spec_moves.specs.States.{place, file, asByte}
+use Rattle.spec_moves.specs.States.{moveThread, moveMessage, asByte}
 use Rattle.spec_threads.specs.Threads.{awake, block}
 
 -- the record in other hands: its owner, its last poster, its channel (0: held)
@@ -30,7 +30,7 @@ passed owner sender channel r =
 -- kind 24: create message, type b, size c, address d. "The creator owns it", and is its sender.
 unfoldable pub createMessage : Kernel → Call → Kernel
 createMessage k c =
-    file (freeMessage k)
+    moveMessage (freeMessage k)
     (record {
       live = true;
       owner = k .runner;
@@ -44,22 +44,22 @@ createMessage k c =
 
 -- kind 25: destroy message a
 unfoldable pub destroyMessage : Kernel → Call → Kernel
-destroyMessage k c = file (c .a) noMessage k
+destroyMessage k c = moveMessage (c .a) noMessage k
 
 -- "where the recipient waits on that channel, it receives the message at the post, as its reply, and wakes"
 unfoldable pub handOver : ℕ → ℕ → Kernel → Kernel
-handOver m t k = place t (awake Wake.Met m (thread k t)) (file m (passed t (k .runner) 0 (message k m)) k)
+handOver m t k = moveThread t (awake Wake.Met m (thread k t)) (moveMessage m (passed t (k .runner) 0 (message k m)) k)
 
 -- kind 26: "Post hands ownership to the recipient and appends to the channel."
 unfoldable pub postMessage : Kernel → Call → Kernel
 postMessage k c =
     cond (awaits (thread k (c .b) .condition) (asByte (c .c)))
     (handOver (c .a) (asByte (c .b)) k)
-    (file (c .a) (passed (asByte (c .b)) (k .runner) (asByte (c .c)) (message k (c .a))) k)
+    (moveMessage (c .a) (passed (asByte (c .b)) (k .runner) (asByte (c .c)) (message k (c .a))) k)
 
 -- "A received message is held."
 unfoldable pub receive : ℕ → Kernel → Kernel
-receive m k = file m (passed (message k m .owner) (message k m .sender) 0 (message k m)) k
+receive m k = moveMessage m (passed (message k m .owner) (message k m .sender) 0 (message k m)) k
 
 -- kind 27: "Pend takes the oldest of the lowest masked channel that has one"; else it blocks
 unfoldable pub pendMessage : Kernel → Call → Kernel

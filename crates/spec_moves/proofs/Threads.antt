@@ -21,8 +21,8 @@ use Rattle.spec_moves.specs.declared.parts.Threads.{Threads}
 use Rattle.spec_kernel.specs.Records.{noThread}
 use Rattle.spec_kernel.specs.Conditions.{isReady, readyFor}
 use Rattle.spec_kernel.specs.Places.{nowhere, homeFor, homeOf, hasHome, rankOf}
-use Rattle.spec_moves.specs.Moves.{rejoined, recordIn, ranksAfter, wakesAfter, relocate, putThreadBack}
-use Rattle.spec_moves.specs.Standing.{lineIn, Standing}
+use Rattle.spec_moves.specs.Moves.{rejoined, threadIn, ranksAfter, wakesAfter, relocate, putThreadBack}
+use Rattle.spec_moves.specs.Standing.{atHomeIn, Standing}
 use Rattle.spec_moves.proofs.Rejoined.{rejoined-keep, Table, table-back, table-stays, table-moved, table-leaves, table-joins, table-last}
 
 -- ---- what a record says
@@ -74,7 +74,7 @@ threads-eq p q e f g = λ i. record { records = e i; places = f i; time = g i }
 module _ (p : Threads) (t : ℕ) (r : Thread) where
   -- the time queue after the move
   abbrev newTime : Queue
-  newTime = cond (eqb (recordIn p t .ticks) (r .ticks)) (p .time) (rejoined (hasTime r) (wakesAfter (p .records) r) t (p .time))
+  newTime = cond (eqb (threadIn p t .ticks) (r .ticks)) (p .time) (rejoined (hasTime r) (wakesAfter (p .records) r) t (p .time))
 
   -- the state that a move gives
   abbrev newThreads : Threads
@@ -94,12 +94,12 @@ module _ (p : Threads) (t : ℕ) (r : Thread) where
   either P f g = cases (ltb t 32) (λ e. rw (moves (ltb-true t 32 e)) (f (ltb-true t 32 e))) (λ e. rw (relocate-past (ltb-false t 32 e)) g)
 
   -- the thread has its record
-  pub relocate-same : length (p .records) ≡ 32 → t < 32 → recordIn (relocate t r p) t ≡ r
+  pub relocate-same : length (p .records) ≡ 32 → t < 32 → threadIn (relocate t r p) t ≡ r
   relocate-same e h = rw (moves h) (getD-set-same (p .records) t r noThread (omega arith))
 
   -- and every other thread has the record that it had
-  pub relocate-other : {u : ℕ} → (u ≡ t → ⊥) → recordIn (relocate t r p) u ≡ recordIn p u
-  relocate-other {u} ne = either (λ n. recordIn n u ≡ recordIn p u) (λ _. getD-set-other (p .records) t u r noThread ne) refl
+  pub relocate-other : {u : ℕ} → (u ≡ t → ⊥) → threadIn (relocate t r p) u ≡ threadIn p u
+  relocate-other {u} ne = either (λ n. threadIn n u ≡ threadIn p u) (λ _. getD-set-other (p .records) t u r noThread ne) refl
 
   module _ (f : ℕ → Bool) (e : f t ≡ false) where
     -- a test that does not hold of the thread does not see it move: not in `places`
@@ -112,7 +112,7 @@ module _ (p : Threads) (t : ℕ) (r : Thread) where
     pub relocate-time-keep : keep f (items (relocate t r p .time)) ≡ keep f (items (p .time))
     relocate-time-keep =
         either (λ n. keep f (items (n .time)) ≡ keep f (items (p .time)))
-        (λ _. cases (eqb (recordIn p t .ticks) (r .ticks)) (λ z. rw z)
+        (λ _. cases (eqb (threadIn p t .ticks) (r .ticks)) (λ z. rw z)
         (λ z. rw z (rejoined-keep (hasTime r) (wakesAfter (p .records) r) t (p .time) f e))) refl
 
   -- everybody else's order is as it was, in `places`
@@ -157,8 +157,8 @@ module _ (p : Threads) (t : ℕ) (r : Thread) (S : Standing p) where
   -- the time queue keeps its rules where the thread moves in it, and where it stays
   time-moved : t < 32 → TimeTable (set (p .records) t r) (newTime p t r)
   time-moved h =
-      cases (eqb (recordIn p t .ticks) (r .ticks))
-      (λ e. let z = eqb-true (recordIn p t .ticks) (r .ticks) e in rw e (table-stays (time-table p S) t (inside p S h) r (rw z) (sym z)))
+      cases (eqb (threadIn p t .ticks) (r .ticks))
+      (λ e. let z = eqb-true (threadIn p t .ticks) (r .ticks) e in rw e (table-stays (time-table p S) t (inside p S h) r (rw z) (sym z)))
       (λ e. rw e (table-moved (time-table p S) t (inside p S h) r))
 
   -- a move keeps the placing rules and the order
@@ -168,7 +168,7 @@ module _ (p : Threads) (t : ℕ) (r : Thread) (S : Standing p) where
       (λ h. standing (newThreads p t r) (length-set (p .records) t r ∙ S .count) (table-moved (places-table p S) t (inside p S h) r) (time-moved h)) S
 
   -- taken back at the old places it gives the old state
-  pub thread-back : putThreadBack t (recordIn p t) (oldPlace t (items (p .places))) (oldPlace t (items (p .time))) (relocate t r p) ≡ p
+  pub thread-back : putThreadBack t (threadIn p t) (oldPlace t (items (p .places))) (oldPlace t (items (p .time))) (relocate t r p) ≡ p
   unfolding putThreadBack
   thread-back =
       cases (ltb t 32)
@@ -182,12 +182,12 @@ module _ (p : Threads) (t : ℕ) (r : Thread) (S : Standing p) where
   module _ (h : t < 32) where
     -- it joins its list or queue behind its equals
     pub relocate-joins : hasHome r ≡ true
-        → lineIn (relocate t r p) (homeOf r) ≡ behind (ranksAfter (p .records) r) t (without t (lineIn p (homeOf r)))
+        → atHomeIn (relocate t r p) (homeOf r) ≡ behind (ranksAfter (p .records) r) t (without t (atHomeIn p (homeOf r)))
     relocate-joins e = rw (moves p t r h) (table-joins (places-table p S) t (inside p S h) r (λ a. eqb (homeOf a) (homeOf r)) e (same (homeOf r)))
 
     -- of a ready thread: last in its priority's list
     pub relocate-last : homeOf r ≡ r .priority → r .priority < 256
-        → lineIn (relocate t r p) (r .priority) ≡ without t (lineIn p (r .priority)) ++ t ∷ []
+        → atHomeIn (relocate t r p) (r .priority) ≡ without t (atHomeIn p (r .priority)) ++ t ∷ []
     relocate-last e b =
         rw (moves p t r h)
         (table-last (places-table p S) t (inside p S h) r (λ a. eqb (homeOf a) (r .priority))
@@ -195,7 +195,7 @@ module _ (p : Threads) (t : ℕ) (r : Thread) (S : Standing p) where
         (λ a z. list-rank a r e b (eqb-true (homeOf a) (r .priority) z)))
 
     -- of every other list it is gone, and the others keep their order there
-    pub relocate-leaves : {n : ℕ} → (n ≡ homeOf r → ⊥) → lineIn (relocate t r p) n ≡ without t (lineIn p n)
+    pub relocate-leaves : {n : ℕ} → (n ≡ homeOf r → ⊥) → atHomeIn (relocate t r p) n ≡ without t (atHomeIn p n)
     relocate-leaves {n} ne =
         rw (moves p t r h)
         (table-leaves (places-table p S) t (inside p S h) r (λ a. eqb (homeOf a) n) (ne-eqb (homeOf r) n (λ z. ne (sym z))))

@@ -28,8 +28,8 @@ rejoined stays after x q = pack (moved (stays && hasRoom x (items q)) after x (i
 abbrev pub restored : ℕ → ℕ → Queue → Queue
 restored i x q = pack (putBack (cond (hasRoom x (items q)) i 255) x (items q))
 
-abbrev pub recordIn : Threads → ℕ → Thread
-recordIn p t = getD (p .records) t noThread
+abbrev pub threadIn : Threads → ℕ → Thread
+threadIn p t = getD (p .records) t noThread
 
 -- who comes after a thread of record r, in `places` and in the time queue
 abbrev pub ranksAfter : List Thread → Thread → ℕ → Bool
@@ -47,7 +47,7 @@ relocate t r p =
       records = set (p .records) t r;
       places = rejoined (hasHome r) (ranksAfter (p .records) r) t (p .places);
       time =
-          cond (eqb (recordIn p t .ticks) (r .ticks)) (p .time)
+          cond (eqb (threadIn p t .ticks) (r .ticks)) (p .time)
           (rejoined (ltb 0 (r .ticks)) (wakesAfter (p .records) r) t (p .time));
     })
     p

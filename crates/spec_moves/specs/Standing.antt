@@ -13,7 +13,7 @@ use Rattle.spec_moves.specs.declared.parts.Threads.{Threads}
 use Rattle.spec_moves.specs.declared.parts.Posts.{Posts}
 use Rattle.spec_kernel.specs.Records.{noMessage}
 use Rattle.spec_kernel.specs.Places.{homeOf, hasHome, rankOf, isQueued, streamOf}
-use Rattle.spec_moves.specs.Moves.{recordIn}
+use Rattle.spec_moves.specs.Moves.{threadIn}
 
 -- the parts of a state
 abbrev pub threadsOf : Kernel → Threads
@@ -26,18 +26,18 @@ abbrev pub messageIn : Posts → ℕ → Message
 messageIn p m = getD (p .records) m noMessage
 
 -- the threads whose home is h, in their order
-abbrev pub lineIn : Threads → ℕ → List ℕ
-lineIn p h = keep (λ t. eqb (homeOf (recordIn p t)) h) (items (p .places))
+abbrev pub atHomeIn : Threads → ℕ → List ℕ
+atHomeIn p h = keep (λ t. eqb (homeOf (threadIn p t)) h) (items (p .places))
 
 -- each thread stands where its record says, once, in order, and the unused store is 0
 pub record Standing (p : Threads) : Type 0 where
   pub count : length (p .records) ≡ 32
   pub tidyPlaces : Tidy (p .places)
   pub tidyTime : Tidy (p .time)
-  pub placed : Placed (λ t. hasHome (recordIn p t)) (items (p .places))
-  pub timed : Placed (λ t. ltb 0 (recordIn p t .ticks)) (items (p .time))
-  pub inRank : Ordered (λ t. rankOf (recordIn p t)) (items (p .places))
-  pub inTime : Ordered (λ t. recordIn p t .ticks) (items (p .time))
+  pub placed : Placed (λ t. hasHome (threadIn p t)) (items (p .places))
+  pub timed : Placed (λ t. ltb 0 (threadIn p t .ticks)) (items (p .time))
+  pub inRank : Ordered (λ t. rankOf (threadIn p t)) (items (p .places))
+  pub inTime : Ordered (λ t. threadIn p t .ticks) (items (p .time))
 
 -- each message likewise
 pub record Filed (p : Posts) : Type 0 where

@@ -120,12 +120,12 @@ abbrev pub withRunner : ℕ → Kernel → Kernel
 withRunner t k = withScheduler (k .uptime) (k .unscheduled) (k .critical) t k
 
 -- thread t gets the record r and takes its places
-abbrev pub place : ℕ → Thread → Kernel → Kernel
-place t r k = withThreads (relocate t r (threadsOf k)) k
+abbrev pub moveThread : ℕ → Thread → Kernel → Kernel
+moveThread t r k = withThreads (relocate t r (threadsOf k)) k
 
 -- message m gets the record r and takes its place
-abbrev pub file : ℕ → Message → Kernel → Kernel
-file m r k = withPosts (repost m r (postsOf k)) k
+abbrev pub moveMessage : ℕ → Message → Kernel → Kernel
+moveMessage m r k = withPosts (repost m r (postsOf k)) k
 
 -- each of a list in turn
 abbrev pub each : (ℕ → Threads → Threads) → List ℕ → Threads → Threads

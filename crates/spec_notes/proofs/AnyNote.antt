@@ -23,7 +23,7 @@ use Rattle.spec_refusals.specs.Refusals.{is}
 use Rattle.spec_notes.specs.Rows.{threadFrom, threadWidths, semaphoreFrom, semaphoreWidths, eventFrom, eventWidths, messageFrom, messageWidths}
 use Rattle.spec_notes.specs.Touched.{oneTickMore, youngerThread, youngerSemaphore}
 use Rattle.spec_notes.specs.Predicted.{wasBlocked, predictedThread, predictedSemaphore, predictedEvent, predictedMessage}
-use Rattle.spec_notes.specs.Back.{place, merge, putBackAll, Threading, readThreads, threadsBefore, readSemaphores, semaphoresBefore}
+use Rattle.spec_notes.specs.Back.{fillPlace, merge, putBackAll, Threading, readThreads, threadsBefore, readSemaphores, semaphoresBefore}
 use Rattle.spec_notes.specs.Back.{readEvents, bitChanged, eventsBefore, Filing, readMessages, messagesBefore}
 use Rattle.spec_notes.proofs.EntriesBack.{getD-map}
 use Rattle.spec_notes.proofs.Limits.{SmallSemaphore, SmallEvent, set-all}
@@ -197,7 +197,7 @@ module _ (c : Call) (runner : ℕ) where
     messages-sized s = messages-count (length s) s _
 
 -- ---- the tables
-place-short : (x : ℕ) (l : List ℕ) (n : ℕ) (go : List ℕ → List ℕ) → ((m : List ℕ) → length (go m) ≤ n) → length (place x l go) ≤ suc n
+place-short : (x : ℕ) (l : List ℕ) (n : ℕ) (go : List ℕ → List ℕ) → ((m : List ℕ) → length (go m) ≤ n) → length (fillPlace x l go) ≤ suc n
 place-short x [] n go h = cases (eqb x 255) (λ e. rw e (omega arith)) (λ e. rw e (omega (arith, h [])))
 place-short x (y ∷ l) n go h = cases (eqb x 255) (λ e. rw e (omega (arith, h l))) (λ e. rw e (omega (arith, h (y ∷ l))))
 

@@ -21,7 +21,7 @@ use Rattle.spec_notes.specs.Predicted.{predictedEvent}
 use Rattle.spec_notes.specs.Sections.{entriesFrom, eventEntry, eventsSection}
 use Rattle.spec_notes.specs.Back.{readEvents, bitChanged, bitsBefore, eventsBefore}
 use Rattle.spec_notes.specs.Within.{Within}
-use Rattle.spec_notes.specs.Framed.{Framed}
+use Rattle.spec_notes.specs.LeftAlone.{LeftAlone}
 use Rattle.spec_notes.proofs.RowsBack.{Fit, field, unused, row-back, rest-back}
 use Rattle.spec_notes.proofs.RecordsBack.{flag-below, event-back, same-event}
 use Rattle.spec_notes.proofs.EntriesBack.{read-part, first-below, records-back}
@@ -51,7 +51,7 @@ module _ (k : Kernel) (c : Call) (k′ : Kernel) where
   unfolding eventsSection
   opens = opens-at 8 (omega arith)
 
-  pub bits-back : Framed k c k′ → bitsBefore c (k′ .bits) (eventsSection k c k′) ≡ k .bits
+  pub bits-back : LeftAlone k c k′ → bitsBefore c (k′ .bits) (eventsSection k c k′) ≡ k .bits
   unfolding bitsBefore
   bits-back F =
       rw (opens .0)

@@ -12,7 +12,7 @@ use Rattle.base_bytes.proofs.Numbers.{length-le, drop-le, un-le}
 use Rattle.spec_kernel.specs.declared.records.Kernel.{Kernel}
 use Rattle.spec_calls.specs.Calls.{callOf}
 use Rattle.spec_notes.specs.Sections.{schedulerSection, threadsSection, semaphoresSection, eventsSection, messagesSection}
-use Rattle.spec_notes.specs.Notes.{section, front, noteOf}
+use Rattle.spec_notes.specs.Notes.{section, beforeLength, noteOf}
 use Rattle.spec_notes.specs.Frames.{sections, isWhole, firstSection, behindSection, framesFrom, framesOf}
 use Rattle.spec_notes.specs.Undo.{lastLength, hasLast, lastNote}
 use Rattle.spec_notes.proofs.EntriesShort.{scheduler-short, threads-below, semaphores-below, events-below, messages-below}
@@ -76,7 +76,7 @@ regroup bytes a b c d e end = simp append-assoc
 -- ---- the note
 module _ (k : Kernel) (bytes : List ℕ) (k′ : Kernel) (h : length bytes ≡ 16) where
   pub frames-back : framesOf (noteOf k bytes k′) ≡ sections (sectionsOf k (callOf bytes) k′)
-  unfolding framesOf noteOf front
+  unfolding framesOf noteOf beforeLength
   frames-back =
       let c = callOf bytes in
       rw (regroup bytes _ _ _ _ _ _, drop-at bytes _ 16 h)
@@ -85,7 +85,7 @@ module _ (k : Kernel) (bytes : List ℕ) (k′ : Kernel) (h : length bytes ≡ 1
       (omega (arith, events-below k c k′)) (omega (arith, messages-below k c k′)) (length-le 2 _))
 
   pub record-back : take 16 (noteOf k bytes k′) ≡ bytes
-  unfolding noteOf front
+  unfolding noteOf beforeLength
   record-back = rw (regroup bytes _ _ _ _ _ _) (take-at bytes _ 16 h)
 
   -- a note has 28 bytes at least, and its length fits its two bytes
@@ -95,7 +95,7 @@ module _ (k : Kernel) (bytes : List ℕ) (k′ : Kernel) (h : length bytes ≡ 1
       let all = note-length k bytes k′ h in
       omega (arith, scheduler-short k c k′, threads-below k c k′, semaphores-below k c k′, events-below k c k′, messages-below k c k′)
 
-  front-size : length (noteOf k bytes k′) ≡ length (front k bytes k′) + 2
+  front-size : length (noteOf k bytes k′) ≡ length (beforeLength k bytes k′) + 2
   unfolding noteOf
   front-size = rw (length-append, length-le)
 
@@ -107,7 +107,7 @@ module _ (k : Kernel) (bytes : List ℕ) (k′ : Kernel) (h : length bytes ≡ 1
     abbrev used : ℕ
     used = length earlier + length (noteOf k bytes k′)
 
-    split : log ≡ (earlier ++ front k bytes k′) ++ (le 2 (length (front k bytes k′) + 2) ++ rest)
+    split : log ≡ (earlier ++ beforeLength k bytes k′) ++ (le 2 (length (beforeLength k bytes k′) + 2) ++ rest)
     unfolding noteOf
     split = simp append-assoc
 
@@ -116,8 +116,8 @@ module _ (k : Kernel) (bytes : List ℕ) (k′ : Kernel) (h : length bytes ≡ 1
     last-length =
         let f = front-size in
         let (_, small) = note-sizes in
-        let e : used - 2 ≡ length (earlier ++ front k bytes k′) = rw length-append (omega arith) in
-        rw (e, split, drop-append-seam) (un-le 2 (length (front k bytes k′) + 2) rest (omega arith) ∙ sym f)
+        let e : used - 2 ≡ length (earlier ++ beforeLength k bytes k′) = rw length-append (omega arith) in
+        rw (e, split, drop-append-seam) (un-le 2 (length (beforeLength k bytes k′) + 2) rest (omega arith) ∙ sym f)
 
     has-last : hasLast log used ≡ true
     unfolding hasLast

@@ -23,7 +23,7 @@ use Rattle.spec_calls.specs.Calls.{callOf}
 use Rattle.spec_refusals.specs.Refusals.{is, isOneOf, numberOf}
 use Rattle.spec_moves.specs.States.{scheduled}
 use Rattle.spec_time.specs.Time.{tick}
-use Rattle.spec_effects.specs.Effects.{noKind, kinds, effect}
+use Rattle.spec_effects.specs.Effects.{noKind, effectsOfKinds, effect}
 use Rattle.proof_rules.proofs.Core.{live-semaphore}
 use Rattle.proof_rules.proofs.Ends.{Before, before}
 use Rattle.proof_rules.proofs.Accepted.{accepted}
@@ -34,7 +34,7 @@ use Rattle.spec_notes.specs.Touched.{touchedThread, touchedSemaphore, to
 use Rattle.spec_notes.specs.Predicted.{predictedSemaphore}
 use Rattle.spec_notes.specs.Sections.{entriesFrom, threadEntry, semaphoreEntry, eventEntry, messageEntry}
 use Rattle.spec_notes.specs.Sections.{schedulerSection, threadsSection, semaphoresSection, eventsSection, messagesSection}
-use Rattle.spec_notes.specs.Notes.{front, noteOf}
+use Rattle.spec_notes.specs.Notes.{beforeLength, noteOf}
 use Rattle.spec_notes.specs.Counts.{countFrom, sameMessageRecord, threadsDiffer, semaphoresDiffer, messagesDiffer, mostBytes}
 use Rattle.spec_notes.specs.Within.{Within, CallWithin}
 use Rattle.spec_notes.proofs.RecordsBack.{same-thread, same-semaphore}
@@ -194,7 +194,7 @@ module _ (k : Kernel) (bytes : List ℕ) (k′ : Kernel) where
       → length (noteOf k bytes k′)
       ≡ 28 + length (schedulerSection k (callOf bytes) k′) + length (threadsSection k (callOf bytes) k′)
       + length (semaphoresSection k (callOf bytes) k′) + length (eventsSection k (callOf bytes) k′) + length (messagesSection k (callOf bytes) k′)
-  unfolding noteOf front
+  unfolding noteOf beforeLength
   note-length e = simp (length-append, length-le) (omega arith)
 
 -- what the scheduler chooses changes no record
@@ -205,7 +205,7 @@ scheduled-slight k c u L = record { events = L .events; lives = L .lives; which 
 module _ (k : Kernel) (c : Call) (S : Before k) (e : c .kind ≡ 1) where
   effect-tick : effect k c ≡ tick k c
   unfolding effect
-  effect-tick = ap (λ (n : ℕ). getD kinds n noKind .does k c) e
+  effect-tick = ap (λ (n : ℕ). getD effectsOfKinds n noKind .does k c) e
 
   scheduled-threads : (t : ℕ) → thread (scheduled (effect k c)) t .ticks ≤ thread k t .ticks - 1
   unfolding scheduled

@@ -18,10 +18,10 @@ use Rattle.spec_kernel.specs.declared.records.Kernel.{Kernel}
 use Rattle.spec_moves.specs.declared.parts.Threads.{Threads}
 use Rattle.spec_moves.specs.declared.parts.Posts.{Posts}
 use Rattle.spec_kernel.specs.Records.{thread, semaphore, event, message, noThread, noSemaphore, noEvent, noMessage}
-use Rattle.spec_moves.specs.Moves.{recordIn, relocate, repost}
+use Rattle.spec_moves.specs.Moves.{threadIn, relocate, repost}
 use Rattle.spec_moves.specs.Standing.{messageIn}
 use Rattle.spec_rules.proofs.OfRecords.{live-or-not}
-use Rattle.spec_moves.specs.States.{withThreads, withPosts, withSemaphore, withEvents, withScheduler, place, file}
+use Rattle.spec_moves.specs.States.{withThreads, withPosts, withSemaphore, withEvents, withScheduler, moveThread, moveMessage}
 use Rattle.proof_rules.proofs.Core.{Fits, untrue, live-thread, live-semaphore, condition-of}
 use Rattle.proof_rules.proofs.Ends.{sized, Before}
 use Rattle.proof_rules.proofs.Steps.{ready-live}
@@ -120,7 +120,7 @@ set-all P l i r d h f j =
     (λ b. rw (set-out l i r (ltb-false i (length l) b)) (f j))
 
 module _ {k : Kernel} (L : Limits k) where
-  pub threads-limits : (p : Threads) → ((t : ℕ) → SmallThread (recordIn p t)) → Limits (withThreads p k)
+  pub threads-limits : (p : Threads) → ((t : ℕ) → SmallThread (threadIn p t)) → Limits (withThreads p k)
   threads-limits p f = record {
     threads = f;
     semaphores = L .semaphores;
@@ -176,13 +176,13 @@ module _ {k : Kernel} (L : Limits k) where
   }
 
   -- the two moves
-  pub place-limits : (t : ℕ) (r : Thread) → SmallThread r → Limits (place t r k)
+  pub place-limits : (t : ℕ) (r : Thread) → SmallThread r → Limits (moveThread t r k)
   unfolding relocate
   place-limits t r b =
       threads-limits _
       (λ u. cases (ltb t 32) (λ e. rw e (set-all SmallThread (k .threads) t r noThread b (L .threads) u)) (λ e. rw e (L .threads u)))
 
-  pub file-limits : (m : ℕ) (r : Message) → SmallMessage r → Limits (file m r k)
+  pub file-limits : (m : ℕ) (r : Message) → SmallMessage r → Limits (moveMessage m r k)
   unfolding repost
   file-limits m r b =
       posts-limits _

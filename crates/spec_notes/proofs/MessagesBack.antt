@@ -22,7 +22,7 @@ use Rattle.spec_notes.specs.Predicted.{predictedMessage}
 use Rattle.spec_notes.specs.Sections.{messageEntry, messagesSection}
 use Rattle.spec_notes.specs.Back.{putBackAll, Filing, readMessages, messagesBefore}
 use Rattle.spec_notes.specs.Within.{Within}
-use Rattle.spec_notes.specs.Framed.{Framed}
+use Rattle.spec_notes.specs.LeftAlone.{LeftAlone}
 use Rattle.spec_notes.proofs.RowsBack.{Fit, none, field, row-back, rest-back}
 use Rattle.spec_notes.proofs.RecordsBack.{flag-below, message-back, same-message}
 use Rattle.spec_notes.proofs.EntriesBack.{each, read-part, records-back}
@@ -82,7 +82,7 @@ module _ (k : Kernel) (c : Call) (k′ : Kernel) where
           part (λ a. a .messages) (λ m l. set l m (message k m)) (λ _ _. refl)
           ∙ records-back touched noMessage 64 (k .messages) (k′ .messages) (Z .messages) (Z′ .messages) (λ m _ e. untouched m e)
 
-      pub posted-back : Rules k → Rules k′ → Framed k c k′ → putBackAll (read .out) (read .at) (k′ .posted) ≡ k .posted
+      pub posted-back : Rules k → Rules k′ → LeftAlone k c k′ → putBackAll (read .out) (read .at) (k′ .posted) ≡ k .posted
       posted-back R R′ F =
           let S = filed k Z R in
           table-back isQueued noMessage refl 64 (omega arith) touched (k .messages) (k′ .messages) (k .posted) (k′ .posted) (Z .messages) (Z′ .messages)

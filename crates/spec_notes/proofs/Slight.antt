@@ -21,10 +21,10 @@ use Rattle.spec_kernel.specs.Places.{semaphoreQueue}
 use Rattle.spec_moves.specs.Standing.{postsOf}
 use Rattle.spec_moves.proofs.Posts.{repost-other}
 use Rattle.spec_kernel.specs.Free.{freeMessage}
-use Rattle.spec_kernel.specs.Channels.{isFor, nextOf, nextMessage}
+use Rattle.spec_kernel.specs.Channels.{isFor, firstFor, nextMessage}
 use Rattle.spec_calls.specs.declared.call.Call.{Call}
 use Rattle.spec_refusals.specs.Refusals.{is, badId, noneFree}
-use Rattle.spec_moves.specs.States.{file, asByte}
+use Rattle.spec_moves.specs.States.{moveMessage, asByte}
 use Rattle.spec_threads.specs.Threads.{block, wake, owns, freeMessages, createThread, destroyThread, setPriority, resetPriority, yielded, sleep}
 use Rattle.spec_regions.specs.Regions.{pushUnscheduled, popUnscheduled, popAllUnscheduled, pushCritical, popCritical, popAllCritical}
 use Rattle.spec_semaphores.specs.Semaphores.{postTo, post, createSemaphore, destroySemaphore, makePeriodic, removePeriodic}
@@ -41,7 +41,7 @@ use Rattle.proof_rules.proofs.OfDestroy.{freed-record}
 use Rattle.spec_notes.specs.Rows.{eventRow, messageRow}
 use Rattle.spec_notes.specs.Touched.{sameRow, sameEvent, sameMessage, touchedEvent, touchedMessage}
 use Rattle.spec_notes.specs.Counts.{sameMessageRecord}
-use Rattle.spec_notes.proofs.FramesOfMessages.{first-member}
+use Rattle.spec_notes.proofs.StaysAtMessages.{first-member}
 
 pub record Slight (k : Kernel) (c : Call) (u : Kernel) : Type 0 where
   -- at most event a changes
@@ -80,7 +80,7 @@ module _ (k : Kernel) (c : Call) (u : Kernel) where
   no-change d e = no-message (λ i t. absurd (event-stays i (rw d) t)) e
 
   -- a message gets a record
-  one-message : (m : ℕ) (r : Message) → u .events ≡ k .events → u .messages ≡ file m r k .messages
+  one-message : (m : ℕ) (r : Message) → u .events ≡ k .events → u .messages ≡ moveMessage m r k .messages
       → one (message k m .live) ≡ cond (is c 24) 0 1 → Slight k c u
   one-message m r d e l =
       let only : (x : ℕ) → touchedMessage k c u x ≡ true → x ≡ m =
@@ -183,7 +183,7 @@ module _ {k : Kernel} (B : Before k) {c : Call} (A : Accepted k c) where
       (λ h. rw h (one-message k c _ (c .a) _ refl refl (rw (l, e)))) (λ h. rw h (one-message k c _ (c .a) _ refl refl (rw (l, e))))
 
   kind-27 : c .kind ≡ 27 → Slight k c (pendMessage k c)
-  unfolding pendMessage receive nextOf block
+  unfolding pendMessage receive firstFor block
   kind-27 e =
       let m = nextMessage k (c .b) in
       let mine : ℕ → Bool = λ x. isFor (k .runner) (c .b) (message k x) in

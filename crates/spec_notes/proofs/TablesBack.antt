@@ -16,11 +16,11 @@ use Rattle.base_queue.specs.Queues.{items, pack, Tidy}
 use Rattle.base_queue.specs.Tables.{one, Placed, oldPlace}
 use Rattle.base_queue.proofs.Counts.{count-head, count-rest, count-at, placeOf-there, placeOf-at, keep-same}
 use Rattle.base_queue.proofs.Tables.{placed-once, placed-past, placed-short}
-use Rattle.spec_notes.specs.Back.{place, merge, putBackAll}
+use Rattle.spec_notes.specs.Back.{fillPlace, merge, putBackAll}
 use Rattle.spec_notes.proofs.EntriesBack.{getD-any, each, each-stays, each-at, marked}
 
 -- a noted member goes to its place
-place-noted : (x : ℕ) (l : List ℕ) (go : List ℕ → List ℕ) → eqb x 255 ≡ false → place x l go ≡ x ∷ go l
+place-noted : (x : ℕ) (l : List ℕ) (go : List ℕ → List ℕ) → eqb x 255 ≡ false → fillPlace x l go ≡ x ∷ go l
 place-noted x [] go e = rw e
 place-noted x (y ∷ l) go e = rw e
 

@@ -28,7 +28,7 @@ use Rattle.spec_notes.specs.Predicted.{predictedThread}
 use Rattle.spec_notes.specs.Sections.{threadEntry, threadsSection}
 use Rattle.spec_notes.specs.Back.{putBackAll, Threading, readThreads, threadsBefore}
 use Rattle.spec_notes.specs.Within.{Within}
-use Rattle.spec_notes.specs.Framed.{Framed}
+use Rattle.spec_notes.specs.LeftAlone.{LeftAlone}
 use Rattle.spec_notes.proofs.RowsBack.{Fit, none, field, row-back, rest-back}
 use Rattle.spec_notes.proofs.RecordsBack.{ByteId, thread-back, same-thread, younger-dead}
 use Rattle.spec_notes.proofs.EntriesBack.{getD-map, each, read-part, records-back}
@@ -121,7 +121,7 @@ module _ (k : Kernel) (c : Call) (k′ : Kernel) where
           ∙ records-back touched noThread 32 (k .threads) (map (youngerThread c) (k′ .threads)) (Z .threads) (length-map (k′ .threads) _ ∙ Z′ .threads)
           (λ t b e. getD-map (youngerThread c) (k′ .threads) t noThread (rw (Z′ .threads) b) ∙ untouched t e)
 
-      module _ (F : Framed k c k′) where
+      module _ (F : LeftAlone k c k′) where
         pub places-back : putBackAll (read .out) (read .at) (k′ .places) ≡ k .places
         unfolding homeOf
         places-back =

@@ -29,7 +29,7 @@ use Rattle.spec_notes.specs.Back.{bitChanged, bitsBefore, earlier, Secti
 use Rattle.spec_notes.specs.Within.{Within}
 use Rattle.spec_notes.specs.Frames.{nothing, sections, firstSection, behindSection, areWhole, sectionsAt, framesFrom, framesOf, sectionsIn}
 use Rattle.spec_notes.specs.Undo.{lastLength, hasLast, lastNote, Yields}
-use Rattle.spec_notes.specs.Undoes.{recordIn, backFrom, isDecoded, levelsFit, yieldsAgain, undoesNote, undoes}
+use Rattle.spec_notes.specs.Undoes.{callBytes, backFrom, isDecoded, levelsFit, yieldsAgain, undoesNote, undoes}
 use Rattle.spec_notes.proofs.Limits.{Limits, limits-within}
 use Rattle.spec_notes.proofs.RecordsBack.{same-row}
 use Rattle.spec_notes.proofs.Slight.{row-same}
@@ -125,8 +125,8 @@ module _ (c : Call) (k′ : Kernel) (x : Sections) (Z : Sized k′) (W : Within 
 module _ (k′ : Kernel) (note : List ℕ) where
   -- a state and a call that yield it are those that it gives back
   module _ {k : Kernel} {bytes : List ℕ} (Y : Yields k bytes k′ note) where
-    record-found : recordIn note ≡ bytes
-    unfolding recordIn
+    record-found : callBytes note ≡ bytes
+    unfolding callBytes
     record-found = yields-call Y
 
     pub state-found : backFrom k′ note ≡ k
@@ -157,25 +157,25 @@ module _ (k′ : Kernel) (note : List ℕ) where
   module _ (Z : Sized k′) (R : Rules k′) (W : Within k′) (B : Bytes note) where
     found-sized : Sized (backFrom k′ note)
     unfolding backFrom
-    found-sized = back-sized (callOf (recordIn note)) k′ (sectionsIn (framesOf note)) Z W (frames-bytes note B)
+    found-sized = back-sized (callOf (callBytes note)) k′ (sectionsIn (framesOf note)) Z W (frames-bytes note B)
 
     found-limits : levelsFit (backFrom k′ note) ≡ true → Limits (backFrom k′ note)
     unfolding backFrom
-    found-limits h = back-limits (callOf (recordIn note)) k′ (sectionsIn (framesOf note)) Z W (frames-bytes note B) h
+    found-limits h = back-limits (callOf (callBytes note)) k′ (sectionsIn (framesOf note)) Z W (frames-bytes note B) h
 
-    record-size : 16 ≤ length note → length (recordIn note) ≡ 16
-    unfolding recordIn
+    record-size : 16 ≤ length note → length (callBytes note) ≡ 16
+    unfolding callBytes
     record-size b = length-take-le 16 note b
 
-    record-bytes : Bytes (recordIn note)
-    unfolding recordIn
+    record-bytes : Bytes (callBytes note)
+    unfolding callBytes
     record-bytes = take-bytes 16 note B
 
-    undone-yields : 16 ≤ length note → undoesNote k′ note ≡ true → Yields (backFrom k′ note) (recordIn note) k′ note
+    undone-yields : 16 ≤ length note → undoesNote k′ note ≡ true → Yields (backFrom k′ note) (callBytes note) k′ note
     unfolding undoesNote yieldsAgain
     undone-yields b h =
         let k = backFrom k′ note in
-        let c = callOf (recordIn note) in
+        let c = callOf (callBytes note) in
         let (_, (l, (r, (n, (s, e))))) = simp (and-true, and-eq-true-iff) at h in
         let Z₀ = found-sized in
         let R₀ = rules-mean k Z₀ r in
@@ -190,7 +190,7 @@ module _ (k′ : Kernel) (note : List ℕ) where
           small = record-bytes;
           accepted = n₀;
           state = s₀;
-          noted = ap (noteOf k (recordIn note)) (sym s₀) ∙ same-row (noteOf k (recordIn note) (scheduled (effect k c))) note e;
+          noted = ap (noteOf k (callBytes note)) (sym s₀) ∙ same-row (noteOf k (callBytes note) (scheduled (effect k c))) note e;
         }
 
 -- ---- the last one of a log
@@ -235,6 +235,6 @@ module _ (log : List ℕ) (used : ℕ) where
   undo-exactly k′ Z R W B = (
     λ h. let (a, b) = and-eq-true-iff (hasLast log used) (undoesNote k′ (lastNote log used)) .0 h in
         let s = last-sizes a in
-        (backFrom k′ (lastNote log used), recordIn (lastNote log used), undone-yields k′ (lastNote log used) Z R W (last-bytes B) (omega arith) b),
+        (backFrom k′ (lastNote log used), callBytes (lastNote log used), undone-yields k′ (lastNote log used) Z R W (last-bytes B) (omega arith) b),
     λ y. yields-undoes (y .2),
   )

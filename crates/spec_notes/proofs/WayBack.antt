@@ -20,7 +20,7 @@ use Rattle.spec_notes.specs.Predicted.{predictedScheduler}
 use Rattle.spec_notes.specs.Sections.{threadsSection, semaphoresSection, eventsSection, messagesSection, heldRunner, schedulerSection}
 use Rattle.spec_notes.specs.Back.{schedulerBefore, Sections, before, stateBefore}
 use Rattle.spec_notes.specs.Within.{Within}
-use Rattle.spec_notes.specs.Framed.{Framed}
+use Rattle.spec_notes.specs.LeftAlone.{LeftAlone}
 use Rattle.spec_notes.proofs.RowsBack.{Fit, field, unused, row-back, body-none}
 use Rattle.spec_notes.proofs.ThreadsBack.{threads-back, places-back, time-back}
 use Rattle.spec_notes.proofs.SemaphoresBack.{semaphores-back}
@@ -60,7 +60,7 @@ sectionsOf k c k′ =
       messages = messagesSection k c k′;
     }
 
-module _ (k : Kernel) (c : Call) (k′ : Kernel) (Z : Sized k) (Z′ : Sized k′) (R : Rules k) (R′ : Rules k′) (W : Within k) (F : Framed k c k′) where
+module _ (k : Kernel) (c : Call) (k′ : Kernel) (Z : Sized k) (Z′ : Sized k′) (R : Rules k) (R′ : Rules k′) (W : Within k) (F : LeftAlone k c k′) where
   -- everything but who ran
   rest-back : before c k′ (sectionsOf k c k′) ≡ withRunner (heldRunner k k′) k
   unfolding before

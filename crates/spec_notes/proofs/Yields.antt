@@ -12,10 +12,10 @@ use Rattle.spec_effects.specs.Effects.{effect}
 use Rattle.proof_rules.proofs.Kept.{rules-kept}
 use Rattle.spec_notes.specs.Back.{stateBefore}
 use Rattle.spec_notes.specs.Within.{Within, CallWithin}
-use Rattle.spec_notes.specs.Framed.{Framed}
+use Rattle.spec_notes.specs.LeftAlone.{LeftAlone}
 use Rattle.spec_notes.specs.Frames.{framesOf, sectionsIn}
 use Rattle.spec_notes.specs.Undo.{Yields}
-use Rattle.spec_notes.proofs.FramesOfCalls.{framed}
+use Rattle.spec_notes.proofs.StaysAtCalls.{call-leaves}
 use Rattle.spec_notes.proofs.WithinKept.{within-kept}
 use Rattle.spec_notes.proofs.WayBack.{way-back}
 use Rattle.spec_notes.proofs.FramesRead.{frames-back, record-back}
@@ -32,14 +32,14 @@ call-within bytes h = record {
 
 module _ {k : Kernel} {bytes : List ℕ} {k′ : Kernel} {note : List ℕ} (Y : Yields k bytes k′ note) where
   -- the end state keeps the rules
-  pub yields-kept : Sized k′ × Rules k′ × Within k′ × Framed k (callOf bytes) k′
+  pub yields-kept : Sized k′ × Rules k′ × Within k′ × LeftAlone k (callOf bytes) k′
   yields-kept =
       let c = callOf bytes in
       let X = call-within bytes (Y .small) in
       let (Z′, R′) = rules-kept k c (Y .sized) (Y .rules) (Y .accepted) in
       let W′ = within-kept k c (Y .sized) (Y .rules) (Y .inside) X (Y .accepted) in
-      let F = framed k c (Y .sized) (Y .rules) (Y .inside) X (Y .accepted) in
-      let all : Sized (scheduled (effect k c)) × Rules (scheduled (effect k c)) × Within (scheduled (effect k c)) × Framed k c (scheduled (effect k c)) =
+      let F = call-leaves k c (Y .sized) (Y .rules) (Y .inside) X (Y .accepted) in
+      let all : Sized (scheduled (effect k c)) × Rules (scheduled (effect k c)) × Within (scheduled (effect k c)) × LeftAlone k c (scheduled (effect k c)) =
       (Z′, R′, W′, F) in
       rw (Y .state) at all
 

@@ -25,12 +25,12 @@ use Rattle.spec_notes.specs.Predicted.{predictedThread, predictedSemapho
 
 -- ---- a table of places: who was touched is out, and back at its old place
 -- place by place: the noted member of that place, or else the next one that stayed
-abbrev pub place : ℕ → List ℕ → (List ℕ → List ℕ) → List ℕ
-place x l go = elim l [ [] ↦ cond (eqb x 255) [] (x ∷ go []) | y ∷ m ↦ cond (eqb x 255) (y ∷ go m) (x ∷ go (y ∷ m)) ]
+abbrev pub fillPlace : ℕ → List ℕ → (List ℕ → List ℕ) → List ℕ
+fillPlace x l go = elim l [ [] ↦ cond (eqb x 255) [] (x ∷ go []) | y ∷ m ↦ cond (eqb x 255) (y ∷ go m) (x ∷ go (y ∷ m)) ]
 
 abbrev pub merge : ℕ → List ℕ → List ℕ → List ℕ
 merge zero at l = []
-merge (suc n) at l = place (getD at 0 255) l (merge n (drop 1 at))
+merge (suc n) at l = fillPlace (getD at 0 255) l (merge n (drop 1 at))
 
 -- `at` has at each old place who stood there (255: nobody touched), `out` says of each id whether it was touched
 unfoldable pub putBackAll : List ℕ → List ℕ → Queue → Queue

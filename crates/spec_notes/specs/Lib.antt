@@ -3,7 +3,7 @@ pub mod Predicted
 pub mod Touched
 pub mod Back
 pub mod Counts
-pub mod Framed
+pub mod LeftAlone
 pub mod Frames
 pub mod Sections
 pub mod Notes

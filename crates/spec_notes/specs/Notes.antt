@@ -11,8 +11,8 @@ abbrev pub section : List ℕ → List ℕ
 section bytes = le 2 (length bytes) ++ bytes
 
 -- "the call record, then sections in a fixed order: scheduler, threads, semaphores, events, messages"
-unfoldable pub front : Kernel → List ℕ → Kernel → List ℕ
-front k bytes k′ =
+unfoldable pub beforeLength : Kernel → List ℕ → Kernel → List ℕ
+beforeLength k bytes k′ =
     bytes
     ++ (section (schedulerSection k (callOf bytes) k′)
     ++ (section (threadsSection k (callOf bytes) k′)
@@ -21,4 +21,4 @@ front k bytes k′ =
 
 -- "The last two bytes are the note's whole length."
 unfoldable pub noteOf : Kernel → List ℕ → Kernel → List ℕ
-noteOf k bytes k′ = front k bytes k′ ++ le 2 (length (front k bytes k′) + 2)
+noteOf k bytes k′ = beforeLength k bytes k′ ++ le 2 (length (beforeLength k bytes k′) + 2)

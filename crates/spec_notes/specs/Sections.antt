@@ -24,28 +24,28 @@ entriesFrom touched entry i zero = []
 entriesFrom touched entry i (suc n) = let r = entriesFrom touched entry (suc i) n in cond (touched i) (entry i ++ r) r
 
 -- the flags of what isn't as predicted, and those fields
-abbrev pub flagged : List ℕ → List ℕ → List ℕ → List ℕ
-flagged widths old predicted = flagsOf old predicted ∷ bodyOf widths old predicted
+abbrev pub flagsAndFields : List ℕ → List ℕ → List ℕ → List ℕ
+flagsAndFields widths old predicted = flagsOf old predicted ∷ bodyOf widths old predicted
 
 -- a thread before: its id, its code, and what isn't as predicted of its record and its two places
 abbrev pub threadNoted : ℕ → Call → Thread → ℕ → ℕ → Thread → List ℕ
 threadNoted t c old place due new =
     t
     ∷ threadCode old
-    ∷ flagged threadWidths (threadRow old place due) (predictedThread c new (threadCode old))
+    ∷ flagsAndFields threadWidths (threadRow old place due) (predictedThread c new (threadCode old))
 
 unfoldable pub threadEntry : Kernel → Call → Kernel → ℕ → List ℕ
 threadEntry k c k′ t =
     threadNoted t c (thread k t) (oldPlace t (items (k .places))) (oldPlace t (items (k .time))) (thread k′ t)
 
 abbrev pub semaphoreNoted : ℕ → Call → Semaphore → Semaphore → List ℕ
-semaphoreNoted i c old new = i ∷ flagged semaphoreWidths (semaphoreRow old) (predictedSemaphore c new)
+semaphoreNoted i c old new = i ∷ flagsAndFields semaphoreWidths (semaphoreRow old) (predictedSemaphore c new)
 
 unfoldable pub semaphoreEntry : Kernel → Call → Kernel → ℕ → List ℕ
 semaphoreEntry k c k′ i = semaphoreNoted i c (semaphore k i) (semaphore k′ i)
 
 abbrev pub eventNoted : ℕ → Event → Event → List ℕ
-eventNoted i old new = i ∷ flagged eventWidths (eventRow old) (predictedEvent new)
+eventNoted i old new = i ∷ flagsAndFields eventWidths (eventRow old) (predictedEvent new)
 
 unfoldable pub eventEntry : Kernel → Call → Kernel → ℕ → List ℕ
 eventEntry k c k′ i = eventNoted i (event k i) (event k′ i)
@@ -53,7 +53,7 @@ eventEntry k c k′ i = eventNoted i (event k i) (event k′ i)
 -- `runner` is who runs after the call
 abbrev pub messageNoted : ℕ → Call → ℕ → Message → ℕ → Message → List ℕ
 messageNoted m c runner old place new =
-    m ∷ flagged messageWidths (messageRow old place) (predictedMessage c runner new)
+    m ∷ flagsAndFields messageWidths (messageRow old place) (predictedMessage c runner new)
 
 unfoldable pub messageEntry : Kernel → Call → Kernel → ℕ → List ℕ
 messageEntry k c k′ m = messageNoted m c (k′ .runner) (message k m) (oldPlace m (items (k .posted))) (message k′ m)
@@ -77,7 +77,7 @@ abbrev pub heldRunner : Kernel → Kernel → ℕ
 heldRunner k k′ = cond (eqb (k .unscheduled + k .critical) 0) (k′ .runner) (k .runner)
 
 abbrev pub unlessPredicted : List ℕ → List ℕ → List ℕ → List ℕ
-unlessPredicted widths old predicted = cond (eqb (flagsOf old predicted) 0) [] (flagged widths old predicted)
+unlessPredicted widths old predicted = cond (eqb (flagsOf old predicted) 0) [] (flagsAndFields widths old predicted)
 
 unfoldable pub schedulerSection : Kernel → Call → Kernel → List ℕ
 schedulerSection k c k′ =

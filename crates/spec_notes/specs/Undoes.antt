@@ -18,12 +18,12 @@ use Rattle.spec_notes.specs.Undo.{hasLast, lastNote}
 use Rattle.spec_notes.specs.Same.{sameKernel}
 
 -- "the call record" stands first
-unfoldable pub recordIn : List ℕ → List ℕ
-recordIn note = take 16 note
+unfoldable pub callBytes : List ℕ → List ℕ
+callBytes note = take 16 note
 
 -- the state before, of the state after and a note, whatever they hold
 unfoldable pub backFrom : Kernel → List ℕ → Kernel
-backFrom k′ note = stateBefore (callOf (recordIn note)) k′ (sectionsIn (framesOf note))
+backFrom k′ note = stateBefore (callOf (callBytes note)) k′ (sectionsIn (framesOf note))
 
 abbrev pub isDecoded : Decoded → Bool
 isDecoded nothing = false
@@ -46,7 +46,7 @@ yieldsAgain k bytes k′ note =
     ∷ [])
 
 unfoldable pub undoesNote : Kernel → List ℕ → Bool
-undoesNote k′ note = isDecoded (framesOf note) && yieldsAgain (backFrom k′ note) (recordIn note) k′ note
+undoesNote k′ note = isDecoded (framesOf note) && yieldsAgain (backFrom k′ note) (callBytes note) k′ note
 
 -- the last note of the log is undone
 unfoldable pub undoes : Kernel → List ℕ → ℕ → Bool

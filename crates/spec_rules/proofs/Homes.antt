@@ -16,7 +16,7 @@ use Rattle.spec_kernel.specs.declared.records.Thread.{Thread}
 use Rattle.spec_kernel.specs.declared.records.Kernel.{Kernel}
 use Rattle.spec_kernel.specs.Records.{thread, semaphore}
 use Rattle.spec_kernel.specs.Conditions.{isReady, waitsForSemaphore, waitsForEvent}
-use Rattle.spec_kernel.specs.Places.{homeOf, hasHome, line, nowhere}
+use Rattle.spec_kernel.specs.Places.{homeOf, hasHome, atHome, nowhere}
 use Rattle.spec_rules.specs.Rules.{ReadyPlaces, SemaphorePlaces, EventPlaces, NoOtherPlaces}
 use Rattle.spec_rules.proofs.OfRecords.{ConditionKept, KeptThread}
 
@@ -80,7 +80,7 @@ module _ (k : Kernel) (H : (t : ℕ) → Housed (thread k t)) where
   Stands = Placed (λ t. hasHome (thread k t)) (items (k .places))
 
   -- a list has its threads once each, and nobody else
-  line-count : Stands → (t h : ℕ) → h < nowhere → count t (line k h) ≡ one (eqb (homeOf (thread k t)) h)
+  line-count : Stands → (t h : ℕ) → h < nowhere → count t (atHome k h) ≡ one (eqb (homeOf (thread k t)) h)
   line-count P t h b =
       rw (count-keep, P t)
       (cases (eqb (homeOf (thread k t)) h) (λ e. rw (e, ne-eqb (homeOf (thread k t)) nowhere (λ z. omega (arith, eqb-true)))) (λ e. rw e))
@@ -100,7 +100,7 @@ module _ (k : Kernel) (H : (t : ℕ) → Housed (thread k t)) where
   -- and where the lists have theirs, so has the table
   module _ (R : ReadyPlaces k) (S : SemaphorePlaces k) (E : EventPlaces k) (N : NoOtherPlaces k) where
     -- a thread stands in the list of its home
-    at-home : (t : ℕ) → homeOf (thread k t) < nowhere → count t (line k (homeOf (thread k t))) ≡ 1
+    at-home : (t : ℕ) → homeOf (thread k t) < nowhere → count t (atHome k (homeOf (thread k t))) ≡ 1
     unfolding ReadyPlaces SemaphorePlaces EventPlaces
     at-home t b =
         let h = homeOf (thread k t) in
@@ -109,13 +109,13 @@ module _ (k : Kernel) (H : (t : ℕ) → Housed (thread k t)) where
         cases (ltb h 512) (λ f. semaphore (h - 256) (omega arith) (omega (arith, H t .within .middle m (ltb-true h 512 f))))
         (λ f. let l = ltb-false h 512 f in event (h - 512) (omega arith) (omega (arith, H t .within .high l b))))
       where
-        ready : homeOf (thread k t) ≤ 30 → count t (line k (homeOf (thread k t))) ≡ 1
+        ready : homeOf (thread k t) ≤ 30 → count t (atHome k (homeOf (thread k t))) ≡ 1
         ready c = R t (homeOf (thread k t)) c ∙ rw (← H t .ready (homeOf (thread k t)) c, same)
 
-        semaphore : (i : ℕ) → homeOf (thread k t) ≡ 256 + i → i < 16 → count t (line k (homeOf (thread k t))) ≡ 1
+        semaphore : (i : ℕ) → homeOf (thread k t) ≡ 256 + i → i < 16 → count t (atHome k (homeOf (thread k t))) ≡ 1
         semaphore i e c = rw e (S t i c ∙ rw (← H t .semaphore i c, eq-eqb _ _ e))
 
-        event : (i : ℕ) → homeOf (thread k t) ≡ 512 + i → i < 8 → count t (line k (homeOf (thread k t))) ≡ 1
+        event : (i : ℕ) → homeOf (thread k t) ≡ 512 + i → i < 8 → count t (atHome k (homeOf (thread k t))) ≡ 1
         event i e c = rw e (E t i c ∙ rw (← H t .event i c, eq-eqb _ _ e))
 
     -- each that has a home stands in the table once, and nobody else does

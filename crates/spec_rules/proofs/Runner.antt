@@ -13,7 +13,7 @@ use Rattle.base_queue.proofs.Counts.{count-head, kept}
 use Rattle.base_queue.proofs.Orders.{ordered-low}
 use Rattle.spec_kernel.specs.declared.records.Kernel.{Kernel}
 use Rattle.spec_kernel.specs.Records.{thread}
-use Rattle.spec_kernel.specs.Places.{homeOf, line}
+use Rattle.spec_kernel.specs.Places.{homeOf, atHome}
 use Rattle.spec_kernel.specs.Runner.{readyFrom, firstReady, chosen}
 use Rattle.spec_rules.proofs.Homes.{Housed}
 
@@ -28,8 +28,8 @@ module _ (k : Kernel) where
 
   -- nobody's home is below n: no list below n has a member
   module _ (n : ℕ) (from : (u : ℕ) → 0 < count u (items (k .places)) → n ≤ home u) where
-    line-none : (h : ℕ) → h < n → line k h ≡ []
-    line-none h b = nobody (line k h) λ u c.
+    line-none : (h : ℕ) → h < n → atHome k h ≡ []
+    line-none h b = nobody (atHome k h) λ u c.
         let (e, m) = kept (λ v. eqb (home v) h) (items (k .places)) c in omega (arith, eqb-true (home u) h e, from u m)
 
     ready-none : (p m : ℕ) → p + m ≤ n → readyFrom k p m ≡ []

@@ -17,7 +17,7 @@ use Rattle.spec_kernel.specs.declared.records.Condition.the-variants.{Ready, As
 use Rattle.spec_kernel.specs.declared.records.Kernel.{Kernel}
 use Rattle.spec_kernel.specs.Records.{thread, semaphore, message}
 use Rattle.spec_kernel.specs.Conditions.{onSemaphore, waitsForSemaphore, onEvent, waitsForEvent}
-use Rattle.spec_kernel.specs.Places.{homeOf, rankOf, line, semaphoreQueue, eventQueue, isQueued, onChannel, channel}
+use Rattle.spec_kernel.specs.Places.{homeOf, rankOf, atHome, semaphoreQueue, eventQueue, isQueued, onChannel, channel}
 use Rattle.spec_rules.specs.Rules.{Sized, Rules}
 use Rattle.spec_rules.specs.Rules.{LiveSemaphores, LiveEvents, NoOtherPlaces, UnusedStore, TimePlaces, WaitingOrder, TimeOrder, StoreOrder}
 use Rattle.spec_rules.specs.Rules.{WaitersAtZero, CountsAtMost, TrueWithoutWaiters, NoneAwaited, LiveOwners, ChannelPlaces, NoOtherPosts}
@@ -55,7 +55,7 @@ module _ (k : Kernel) (Z : Sized k) (W : Whole k) where
   condition = conditions k Z (W .threads)
 
   -- ---- who stands in a queue waits for its object
-  in-line : (h u : ℕ) → 0 < count u (line k h) → eqb (homeOf (thread k u)) h ≡ true
+  in-line : (h u : ℕ) → 0 < count u (atHome k h) → eqb (homeOf (thread k u)) h ≡ true
   in-line h u c = kept (λ t. eqb (homeOf (thread k t)) h) (items (k .places)) c .0
 
   waiters-at-zero : WaitersAtZero k

@@ -13,7 +13,7 @@ use Rattle.spec_kernel.specs.declared.records.Condition.the-variants.{ForSemaph
 use Rattle.spec_kernel.specs.declared.records.Kernel.{Kernel}
 use Rattle.spec_kernel.specs.Records.{thread, semaphore, event, message, noThread, noSemaphore, noMessage}
 use Rattle.spec_kernel.specs.Conditions.{isReady, waitsForSemaphore, waitsForEvent, isTimed, masks}
-use Rattle.spec_kernel.specs.Places.{homeOf, hasHome, line, readyList, semaphoreQueue, eventQueue, timeQueue, channel, onChannel, isQueued, streamOf}
+use Rattle.spec_kernel.specs.Places.{homeOf, hasHome, atHome, readyList, semaphoreQueue, eventQueue, timeQueue, channel, onChannel, isQueued, streamOf}
 use Rattle.spec_kernel.specs.Truth.{isTrue}
 use Rattle.spec_kernel.specs.Runner.{firstReady}
 
@@ -62,7 +62,7 @@ TimePlaces k = (t : ℕ) → count t (timeQueue k) ≡ one (isTimed (thread k t)
 
 -- "A waiting queue is ordered by priority, then by arrival." Of every home: in a ready list the priorities are equal.
 unfoldable pub WaitingOrder : Kernel → Type 0
-WaitingOrder k = (home : ℕ) → Ordered (λ t. thread k t .priority) (line k home)
+WaitingOrder k = (home : ℕ) → Ordered (λ t. thread k t .priority) (atHome k home)
 
 -- "The time queue is ordered by ticks left, then by entry."
 unfoldable pub TimeOrder : Kernel → Type 0

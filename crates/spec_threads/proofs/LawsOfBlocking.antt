@@ -10,7 +10,7 @@ use Rattle.spec_kernel.specs.declared.records.Condition.{Condition}
 use Rattle.spec_kernel.specs.declared.records.Condition.the-variants.{Asleep}
 use Rattle.spec_kernel.specs.declared.records.Kernel.{Kernel}
 use Rattle.spec_kernel.specs.Records.{thread}
-use Rattle.spec_kernel.specs.Places.{nowhere, homeFor, readyHome, line, readyList, timeQueue}
+use Rattle.spec_kernel.specs.Places.{nowhere, homeFor, readyHome, atHome, readyList, timeQueue}
 use Rattle.spec_moves.specs.Standing.{threadsOf, Standing}
 use Rattle.spec_moves.proofs.Threads.{ready-home, relocate-same, relocate-other, relocate-leaves}
 use Rattle.spec_calls.specs.declared.call.Call.{Call}
@@ -30,9 +30,9 @@ isLater k ticks u = ltb ticks (thread k u .ticks)
 pub record Blocked (condition : Condition) (timeout h t : ℕ) (k k′ : Kernel) : Type 0 where
   -- "The thread leaves the ready list and joins its queue behind equal priorities."
   pub left : readyList k′ (thread k t .priority) ≡ without t (readyList k (thread k t .priority))
-  pub joined : (h ≡ nowhere → ⊥) → line k′ h ≡ behind (isLower k t) t (line k h)
+  pub joined : (h ≡ nowhere → ⊥) → atHome k′ h ≡ behind (isLower k t) t (atHome k h)
   -- every other list and queue is as it was
-  pub lists : (n : ℕ) → (n ≡ readyHome (thread k t .priority) → ⊥) → (n ≡ h → ⊥) → line k′ n ≡ line k n
+  pub lists : (n : ℕ) → (n ≡ readyHome (thread k t .priority) → ⊥) → (n ≡ h → ⊥) → atHome k′ n ≡ atHome k n
   -- "Timeout 0 waits for ever": the time queue stays; else it joins behind those that wake before it
   pub forever : timeout ≡ 0 → timeQueue k′ ≡ timeQueue k
   pub timed : 0 < timeout → timeQueue k′ ≡ behind (isLater k timeout) t (timeQueue k)

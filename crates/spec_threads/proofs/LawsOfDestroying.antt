@@ -15,7 +15,7 @@ use Rattle.base_queue.proofs.Queues.{items-pack}
 use Rattle.spec_kernel.specs.declared.records.Message.{Message}
 use Rattle.spec_kernel.specs.declared.records.Kernel.{Kernel}
 use Rattle.spec_kernel.specs.Records.{thread, message, noThread, noMessage}
-use Rattle.spec_kernel.specs.Places.{nowhere, homeOf, line, timeQueue, onChannel, channel}
+use Rattle.spec_kernel.specs.Places.{nowhere, homeOf, atHome, timeQueue, onChannel, channel}
 use Rattle.spec_moves.specs.Standing.{threadsOf, postsOf, Standing, Filed}
 use Rattle.spec_moves.proofs.Threads.{relocate-same, relocate-other, relocate-leaves}
 use Rattle.spec_calls.specs.declared.call.Call.{Call}
@@ -27,7 +27,7 @@ use Rattle.spec_threads.proofs.LawsOfHomes.{posted-live, time-left}
 -- Thread a of k is gone in k′.
 pub record Destroyed (a : ℕ) (k k′ : Kernel) : Type 0 where
   -- "Destroy removes a thread from every queue": the others keep their order
-  pub lists : (h : ℕ) → h < nowhere → line k′ h ≡ without a (line k h)
+  pub lists : (h : ℕ) → h < nowhere → atHome k′ h ≡ without a (atHome k h)
   pub time : timeQueue k′ ≡ without a (timeQueue k)
   pub itself : thread k′ a ≡ noThread
   pub others : OtherThreads a k k′

@@ -20,12 +20,12 @@ use Rattle.spec_moves.specs.declared.parts.Posts.{Posts}
 use Rattle.spec_kernel.specs.Records.{noThread, noMessage}
 use Rattle.spec_kernel.specs.Conditions.{isReady, readyFor}
 use Rattle.spec_kernel.specs.Places.{nowhere, homeFor, homeOf, hasHome, rankOf, isQueued}
-use Rattle.spec_moves.specs.Moves.{recordIn, relocate}
-use Rattle.spec_moves.specs.Standing.{lineIn, messageIn, Standing, Filed}
+use Rattle.spec_moves.specs.Moves.{threadIn, relocate}
+use Rattle.spec_moves.specs.Standing.{atHomeIn, messageIn, Standing, Filed}
 use Rattle.spec_moves.proofs.Joins.{past-end}
 use Rattle.spec_moves.proofs.Rejoined.{Table, table-joins}
 use Rattle.spec_moves.proofs.Threads.{ready-home, relocate-standing, relocate-same, relocate-joins, relocate-time-order}
-use Rattle.spec_moves.specs.States.{place}
+use Rattle.spec_moves.specs.States.{moveThread}
 use Rattle.spec_kernel.specs.WordsOfLaws.{Stopped, OnlyThreads}
 use Rattle.spec_threads.proofs.LawsOfLists.{live-inside, keep-once, keep-missing, keep-absent, behind-same}
 
@@ -64,50 +64,50 @@ stopped-home r l e = rw l (go (r .condition) (rw l at e))
 
 module _ {p : Threads} (S : Standing p) where
   -- a live thread has an id
-  pub live-id : (t : ℕ) → recordIn p t .live ≡ true → t < 32
+  pub live-id : (t : ℕ) → threadIn p t .live ≡ true → t < 32
   live-id t e = live-inside (λ r. r .live) noThread refl (p .records) (S .count) t e
 
   module _ (t h : ℕ) where
     -- who stands in a line has that home
-    pub line-home : 0 < count t (lineIn p h) → homeOf (recordIn p t) ≡ h
-    line-home c = eqb-true (homeOf (recordIn p t)) h (kept (λ u. eqb (homeOf (recordIn p u)) h) (items (p .places)) c .0)
+    pub line-home : 0 < count t (atHomeIn p h) → homeOf (threadIn p t) ≡ h
+    line-home c = eqb-true (homeOf (threadIn p t)) h (kept (λ u. eqb (homeOf (threadIn p u)) h) (items (p .places)) c .0)
 
     -- and is live
-    pub line-live : 0 < count t (lineIn p h) → recordIn p t .live ≡ true
+    pub line-live : 0 < count t (atHomeIn p h) → threadIn p t .live ≡ true
     line-live c =
-        home-live (recordIn p t) λ e.
+        home-live (threadIn p t) λ e.
         let z : count t (items (p .places)) ≡ 0 = S .placed t ∙ rw e in
-        omega (arith, kept (λ u. eqb (homeOf (recordIn p u)) h) (items (p .places)) c .1)
+        omega (arith, kept (λ u. eqb (homeOf (threadIn p u)) h) (items (p .places)) c .1)
 
     -- who has another home does not stand there
-    pub line-absent : (homeOf (recordIn p t) ≡ h → ⊥) → count t (lineIn p h) ≡ 0
-    line-absent ne = rw (count-keep, ne-eqb (homeOf (recordIn p t)) h ne)
+    pub line-absent : (homeOf (threadIn p t) ≡ h → ⊥) → count t (atHomeIn p h) ≡ 0
+    line-absent ne = rw (count-keep, ne-eqb (homeOf (threadIn p t)) h ne)
 
-    pub line-without : (homeOf (recordIn p t) ≡ h → ⊥) → without t (lineIn p h) ≡ lineIn p h
-    line-without ne = keep-missing (λ u. eqb (homeOf (recordIn p u)) h) (items (p .places)) t (ne-eqb (homeOf (recordIn p t)) h ne)
+    pub line-without : (homeOf (threadIn p t) ≡ h → ⊥) → without t (atHomeIn p h) ≡ atHomeIn p h
+    line-without ne = keep-missing (λ u. eqb (homeOf (threadIn p u)) h) (items (p .places)) t (ne-eqb (homeOf (threadIn p t)) h ne)
 
     -- nor does who has none
-    pub line-nowhere : homeOf (recordIn p t) ≡ nowhere → without t (lineIn p h) ≡ lineIn p h
-    line-nowhere e = keep-absent (λ u. eqb (homeOf (recordIn p u)) h) (items (p .places)) t (S .placed t ∙ rw e)
+    pub line-nowhere : homeOf (threadIn p t) ≡ nowhere → without t (atHomeIn p h) ≡ atHomeIn p h
+    line-nowhere e = keep-absent (λ u. eqb (homeOf (threadIn p u)) h) (items (p .places)) t (S .placed t ∙ rw e)
 
     -- nobody stands there twice
-    pub line-once : count t (lineIn p h) ≤ 1
+    pub line-once : count t (atHomeIn p h) ≤ 1
     line-once =
-        keep-once (λ u. eqb (homeOf (recordIn p u)) h) (items (p .places)) t
-        (placed-once (λ u. hasHome (recordIn p u)) (items (p .places)) (S .placed) t)
+        keep-once (λ u. eqb (homeOf (threadIn p u)) h) (items (p .places)) t
+        (placed-once (λ u. hasHome (threadIn p u)) (items (p .places)) (S .placed) t)
 
   -- who stands in a queue is no ready thread
-  pub line-stopped : (t : ℕ) {h : ℕ} → recordIn p t .priority < 256 → 256 ≤ h → 0 < count t (lineIn p h) → Stopped (recordIn p t)
+  pub line-stopped : (t : ℕ) {h : ℕ} → threadIn p t .priority < 256 → 256 ≤ h → 0 < count t (atHomeIn p h) → Stopped (threadIn p t)
   line-stopped t {h} byte b c = record {
     live = line-live t h c;
     stopped =
-        cases (isReady (recordIn p t)) (λ e. absurd (omega (arith, ready-home (recordIn p t) e, line-home t h c)))
+        cases (isReady (threadIn p t)) (λ e. absurd (omega (arith, ready-home (threadIn p t) e, line-home t h c)))
         (λ e. e);
     byte = byte;
   }
 
   -- who has no ticks left is not in the time queue
-  pub time-absent : (t : ℕ) → recordIn p t .ticks ≡ 0 → count t (items (p .time)) ≡ 0
+  pub time-absent : (t : ℕ) → threadIn p t .ticks ≡ 0 → count t (items (p .time)) ≡ 0
   time-absent t e = S .timed t ∙ rw e
 
 -- ---- messages
@@ -132,7 +132,7 @@ module _ {q : Posts} (F : Filed q) (m : ℕ) where
 
 -- ---- a move
 -- nothing but threads changes
-pub place-only : (t : ℕ) (r : Thread) (k : Kernel) → OnlyThreads k (place t r k)
+pub place-only : (t : ℕ) (r : Thread) (k : Kernel) → OnlyThreads k (moveThread t r k)
 place-only t r k = record {
   semaphores = refl;
   events = record { records = refl; bits = refl };
@@ -141,9 +141,9 @@ place-only t r k = record {
 }
 
 -- the time queue stays where the ticks left do
-pub time-stays : (p : Threads) (t : ℕ) (r : Thread) → recordIn p t .ticks ≡ r .ticks → relocate t r p .time ≡ p .time
+pub time-stays : (p : Threads) (t : ℕ) (r : Thread) → threadIn p t .ticks ≡ r .ticks → relocate t r p .time ≡ p .time
 unfolding relocate
-time-stays p t r e = cases (ltb t 32) (λ z. rw (z, eq-eqb (recordIn p t .ticks) (r .ticks) e)) (λ z. rw z)
+time-stays p t r e = cases (ltb t 32) (λ z. rw (z, eq-eqb (threadIn p t .ticks) (r .ticks) e)) (λ z. rw z)
 
 module _ {p : Threads} (S : Standing p) (t : ℕ) (h : t < 32) (r : Thread) where
   -- with no ticks left a thread has left it; the others keep their order there
@@ -154,24 +154,24 @@ module _ {p : Threads} (S : Standing p) (t : ℕ) (h : t < 32) (r : Thread) wher
       sym (without-absent t (items (relocate t r p .time)) z) ∙ relocate-time-order p t r
 
   -- one that had none and has some joins it before those that have more
-  pub time-joins : recordIn p t .ticks ≡ 0 → 0 < r .ticks
-      → items (relocate t r p .time) ≡ behind (λ u. ltb (r .ticks) (recordIn p u .ticks)) t (items (p .time))
+  pub time-joins : threadIn p t .ticks ≡ 0 → 0 < r .ticks
+      → items (relocate t r p .time) ≡ behind (λ u. ltb (r .ticks) (threadIn p u .ticks)) t (items (p .time))
   unfolding relocate
   time-joins e b =
       let T : Table noThread (λ s. ltb 0 (s .ticks)) (λ s. s .ticks) (p .records) (p .time) =
       record { out = refl; few = omega (arith, S .count); tidy = S .tidyTime; placed = S .timed; ordered = S .inTime } in
       let all : (l : List ℕ) → keep (λ _. true) l ≡ l = λ l. keep-all l (λ _ _. refl) in
-      rw (lt-ltb t 32 h, ne-eqb (recordIn p t .ticks) (r .ticks) (λ z. omega arith))
+      rw (lt-ltb t 32 h, ne-eqb (threadIn p t .ticks) (r .ticks) (λ z. omega arith))
       ((simp all at (table-joins T t (omega (arith, S .count)) r (λ _. true) (lt-ltb 0 (r .ticks) b) refl))
-      ∙ ap (behind (λ u. ltb (r .ticks) (recordIn p u .ticks)) t) (without-absent t (items (p .time)) (time-absent S t e)))
+      ∙ ap (behind (λ u. ltb (r .ticks) (threadIn p u .ticks)) t) (without-absent t (items (p .time)) (time-absent S t e)))
 
   -- it joins a queue before those of a lower priority, which is a greater number
   pub line-joins : {n : ℕ} → homeOf r ≡ n → (n ≡ nowhere → ⊥)
-      → lineIn (relocate t r p) n ≡ behind (λ u. ltb (r .priority) (recordIn p u .priority)) t (without t (lineIn p n))
+      → atHomeIn (relocate t r p) n ≡ behind (λ u. ltb (r .priority) (threadIn p u .priority)) t (without t (atHomeIn p n))
   unfolding rankOf
   line-joins {n} e ne =
       rw (← e)
       (relocate-joins p t r S h (rw (ne-eqb (homeOf r) nowhere (λ z. ne (sym e ∙ z))))
-      ∙ behind-same t (without t (lineIn p (homeOf r)))
-      (λ u c. let z = line-home S u (homeOf r) (kept (isNot t) (lineIn p (homeOf r)) c .1) in
-      rw z (ltb-shift (homeOf r * 256) (r .priority) (recordIn p u .priority))))
+      ∙ behind-same t (without t (atHomeIn p (homeOf r)))
+      (λ u c. let z = line-home S u (homeOf r) (kept (isNot t) (atHomeIn p (homeOf r)) c .1) in
+      rw z (ltb-shift (homeOf r * 256) (r .priority) (threadIn p u .priority))))

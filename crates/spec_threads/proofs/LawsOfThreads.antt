@@ -16,12 +16,12 @@ use Rattle.spec_kernel.specs.declared.records.Condition.the-variants.{Ready, As
 use Rattle.spec_kernel.specs.declared.records.Kernel.{Kernel}
 use Rattle.spec_kernel.specs.Records.{thread, noThread}
 use Rattle.spec_kernel.specs.Conditions.{isReady, readyFor}
-use Rattle.spec_kernel.specs.Places.{nowhere, homeFor, homeOf, readyHome, line, readyList, semaphoreQueue, eventQueue, timeQueue}
+use Rattle.spec_kernel.specs.Places.{nowhere, homeFor, homeOf, readyHome, atHome, readyList, semaphoreQueue, eventQueue, timeQueue}
 use Rattle.spec_moves.specs.Standing.{threadsOf, Standing}
 use Rattle.spec_moves.proofs.Threads.{ready-home, relocate-same, relocate-other, relocate-last, relocate-leaves}
 use Rattle.spec_kernel.specs.Free.{lowestFree, freeThread}
 use Rattle.spec_calls.specs.declared.call.Call.{Call}
-use Rattle.spec_moves.specs.States.{place, scheduled}
+use Rattle.spec_moves.specs.States.{moveThread, scheduled}
 use Rattle.spec_threads.specs.Threads.{createThread, setPriority, resetPriority, yielded}
 use Rattle.spec_kernel.specs.WordsOfLaws.{Runnable, prioritized, newborn, OnlyThreads, OnlyRunner, OtherThreads}
 use Rattle.spec_threads.proofs.LawsOfHomes.{place-only, live-home, ready-live, live-id, line-without, line-nowhere, time-stays, line-joins}
@@ -53,7 +53,7 @@ pub record Created (priority t : ℕ) (k k′ : Kernel) : Type 0 where
   pub lowest : (u : ℕ) → u < t → thread k u .live ≡ true
   -- it stands last in its list, and "A preempted thread keeps its place": every other list and queue is as it was
   pub last : readyList k′ priority ≡ readyList k priority ++ t ∷ []
-  pub lists : (h : ℕ) → (h ≡ readyHome priority → ⊥) → line k′ h ≡ line k h
+  pub lists : (h : ℕ) → (h ≡ readyHome priority → ⊥) → atHome k′ h ≡ atHome k h
   pub time : timeQueue k′ ≡ timeQueue k
   -- "A new thread .. has wake reason none and reply 255"; nobody else's record changes
   pub itself : thread k′ t ≡ newborn priority
@@ -100,7 +100,7 @@ module _ (k : Kernel) (c : Call) where
 pub record Yielded (t : ℕ) (k k′ : Kernel) : Type 0 where
   pub last : readyList k′ (thread k t .priority) ≡ without t (readyList k (thread k t .priority)) ++ t ∷ []
   -- nobody else moves, and no record changes
-  pub lists : (h : ℕ) → (h ≡ readyHome (thread k t .priority) → ⊥) → line k′ h ≡ line k h
+  pub lists : (h : ℕ) → (h ≡ readyHome (thread k t .priority) → ⊥) → atHome k′ h ≡ atHome k h
   pub time : timeQueue k′ ≡ timeQueue k
   pub records : (u : ℕ) → thread k′ u ≡ thread k u
 
@@ -131,14 +131,14 @@ module _ (k : Kernel) (c : Call) where
 pub record Reprioritized (new a : ℕ) (k k′ : Kernel) : Type 0 where
   -- a ready thread is last in its new list and out of its old one, where the others keep their order
   pub last : isReady (thread k a) ≡ true → readyList k′ new ≡ without a (readyList k new) ++ a ∷ []
-  pub lists : isReady (thread k a) ≡ true → (h : ℕ) → (h ≡ readyHome new → ⊥) → line k′ h ≡ without a (line k h)
+  pub lists : isReady (thread k a) ≡ true → (h : ℕ) → (h ≡ readyHome new → ⊥) → atHome k′ h ≡ without a (atHome k h)
   -- a waiter stands in its queue behind its new equals, before those of a lower priority
   pub semaphore : (i : ℕ) → i < 256 → thread k a .condition ≡ ForSemaphore i
       → semaphoreQueue k′ i ≡ behind (λ u. ltb new (thread k u .priority)) a (without a (semaphoreQueue k i))
   pub event : (i : ℕ) → i < 256 → thread k a .condition ≡ ForEvent i
       → eventQueue k′ i ≡ behind (λ u. ltb new (thread k u .priority)) a (without a (eventQueue k i))
   -- and nobody else moves; who sleeps or waits for a message has no home to move in
-  pub elsewhere : isReady (thread k a) ≡ false → (h : ℕ) → (h ≡ homeFor (thread k a .condition) new → ⊥) → line k′ h ≡ line k h
+  pub elsewhere : isReady (thread k a) ≡ false → (h : ℕ) → (h ≡ homeFor (thread k a .condition) new → ⊥) → atHome k′ h ≡ atHome k h
   pub time : timeQueue k′ ≡ timeQueue k
   -- nothing else of it changes, and nobody else's record does
   pub itself : thread k′ a ≡ prioritized new (thread k a)
@@ -153,7 +153,7 @@ unmoved (ForEvent i) p q e = refl
 unmoved (ForMessage mask) p q e = refl
 
 module _ (k : Kernel) (S : Standing (threadsOf k)) (a new : ℕ) (l : thread k a .live ≡ true) (b : new < 256) where
-  reprioritized : Reprioritized new a k (place a (prioritized new (thread k a)) k)
+  reprioritized : Reprioritized new a k (moveThread a (prioritized new (thread k a)) k)
   reprioritized =
       let r = prioritized new (thread k a) in
       let id = live-id S a l in

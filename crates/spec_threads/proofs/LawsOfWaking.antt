@@ -16,9 +16,9 @@ use Rattle.spec_kernel.specs.declared.records.Thread.{Thread}
 use Rattle.spec_kernel.specs.declared.records.Kernel.{Kernel}
 use Rattle.spec_moves.specs.declared.parts.Threads.{Threads}
 use Rattle.spec_kernel.specs.Records.{thread}
-use Rattle.spec_kernel.specs.Places.{homeOf, readyHome, line, readyList, timeQueue}
-use Rattle.spec_moves.specs.Moves.{recordIn, relocate}
-use Rattle.spec_moves.specs.Standing.{threadsOf, lineIn, Standing}
+use Rattle.spec_kernel.specs.Places.{homeOf, readyHome, atHome, readyList, timeQueue}
+use Rattle.spec_moves.specs.Moves.{threadIn, relocate}
+use Rattle.spec_moves.specs.Standing.{threadsOf, atHomeIn, Standing}
 use Rattle.spec_moves.proofs.Threads.{ready-home, relocate-standing, relocate-same, relocate-other, relocate-last, relocate-leaves}
 use Rattle.spec_moves.specs.States.{withThreads, each}
 use Rattle.spec_threads.specs.Threads.{wake}
@@ -34,38 +34,38 @@ pub record Woken (why : Wake) (reply t : ℕ) (k k′ : Kernel) : Type 0 where
   -- "A preempted thread keeps its place": every other ready list is as it was
   pub lists : (p : ℕ) → p < 256 → (p ≡ thread k t .priority → ⊥) → readyList k′ p ≡ readyList k p
   -- it is out of every queue, and the others keep their order there
-  pub queues : (h : ℕ) → (h ≡ readyHome (thread k t .priority) → ⊥) → line k′ h ≡ without t (line k h)
+  pub queues : (h : ℕ) → (h ≡ readyHome (thread k t .priority) → ⊥) → atHome k′ h ≡ without t (atHome k h)
   -- out of the time queue too
   pub time : timeQueue k′ ≡ without t (timeQueue k)
   -- it is ready with no ticks left, the reason and the reply are new, and nobody else's record changes
   pub itself : thread k′ t ≡ readied why reply (thread k t)
   pub others : OtherThreads t k k′
 
-module _ {p : Threads} (S : Standing p) (t : ℕ) (W : Stopped (recordIn p t)) where
+module _ {p : Threads} (S : Standing p) (t : ℕ) (W : Stopped (threadIn p t)) where
   -- who sleeps or waits is in no ready list
-  pub stopped-list : {q : ℕ} → q < 256 → without t (lineIn p q) ≡ lineIn p q
-  stopped-list {q} b = line-without S t q (λ e. omega (arith, stopped-home (recordIn p t) (W .live) (W .stopped)))
+  pub stopped-list : {q : ℕ} → q < 256 → without t (atHomeIn p q) ≡ atHomeIn p q
+  stopped-list {q} b = line-without S t q (λ e. omega (arith, stopped-home (threadIn p t) (W .live) (W .stopped)))
 
   module _ (why : Wake) (reply : ℕ) where
     abbrev woken : Thread
-    woken = readied why reply (recordIn p t)
+    woken = readied why reply (threadIn p t)
 
     abbrev next : Threads
     next = relocate t woken p
 
-    woken-home : homeOf woken ≡ recordIn p t .priority
+    woken-home : homeOf woken ≡ threadIn p t .priority
     woken-home = ready-home woken (rw (W .live))
 
-    pub woken-last : lineIn next (recordIn p t .priority) ≡ lineIn p (recordIn p t .priority) ++ t ∷ []
+    pub woken-last : atHomeIn next (threadIn p t .priority) ≡ atHomeIn p (threadIn p t .priority) ++ t ∷ []
     woken-last = relocate-last p t woken S (live-id S t (W .live)) woken-home (W .byte) ∙ rw (stopped-list (W .byte))
 
-    pub woken-leaves : {h : ℕ} → (h ≡ recordIn p t .priority → ⊥) → lineIn next h ≡ without t (lineIn p h)
+    pub woken-leaves : {h : ℕ} → (h ≡ threadIn p t .priority → ⊥) → atHomeIn next h ≡ without t (atHomeIn p h)
     woken-leaves ne = relocate-leaves p t woken S (live-id S t (W .live)) (λ e. ne (e ∙ woken-home))
 
     pub woken-time : items (next .time) ≡ without t (items (p .time))
     woken-time = time-left S t (live-id S t (W .live)) woken refl
 
-    pub woken-same : recordIn next t ≡ woken
+    pub woken-same : threadIn next t ≡ woken
     woken-same = relocate-same p t woken (S .count) (live-id S t (W .live))
 
 module _ (k : Kernel) (S : Standing (threadsOf k)) (t : ℕ) (W : Stopped (thread k t)) (why : Wake) where
@@ -92,36 +92,36 @@ wake-only why t k = place-only t (readied why (thread k t .reply) (thread k t)) 
 
 -- ---- several, each for the reason that its record says
 abbrev pub wakes : (Thread → Wake) → ℕ → Threads → Threads
-wakes why t p = relocate t (readied (why (recordIn p t)) (recordIn p t .reply) (recordIn p t)) p
+wakes why t p = relocate t (readied (why (threadIn p t)) (threadIn p t .reply) (threadIn p t)) p
 
 -- each of l is named once, and sleeps or waits
 abbrev pub Called : Threads → List ℕ → Type 0
-Called p l = (t : ℕ) → 0 < count t l → (count t l ≡ 1) × Stopped (recordIn p t)
+Called p l = (t : ℕ) → 0 < count t l → (count t l ≡ 1) × Stopped (threadIn p t)
 
 -- The threads of l wake, one after the other.
 pub record AllWoken (why : Thread → Wake) (l : List ℕ) (p p′ : Threads) : Type 0 where
   pub standing : Standing p′
   -- each list gets those of its priority, in the order of l
-  pub lists : (q : ℕ) → q < 256 → lineIn p′ q ≡ lineIn p q ++ keep (λ t. eqb (recordIn p t .priority) q) l
+  pub lists : (q : ℕ) → q < 256 → atHomeIn p′ q ≡ atHomeIn p q ++ keep (λ t. eqb (threadIn p t .priority) q) l
   -- each queue loses them, and the others keep their order
-  pub queues : (h : ℕ) → 256 ≤ h → lineIn p′ h ≡ withoutAll l (lineIn p h)
+  pub queues : (h : ℕ) → 256 ≤ h → atHomeIn p′ h ≡ withoutAll l (atHomeIn p h)
   pub time : items (p′ .time) ≡ withoutAll l (items (p .time))
-  pub woken : (t : ℕ) → 0 < count t l → recordIn p′ t ≡ readied (why (recordIn p t)) (recordIn p t .reply) (recordIn p t)
-  pub others : (t : ℕ) → count t l ≡ 0 → recordIn p′ t ≡ recordIn p t
+  pub woken : (t : ℕ) → 0 < count t l → threadIn p′ t ≡ readied (why (threadIn p t)) (threadIn p t .reply) (threadIn p t)
+  pub others : (t : ℕ) → count t l ≡ 0 → threadIn p′ t ≡ threadIn p t
 
 module _ (why : Thread → Wake) where
   module _ {p : Threads} (S : Standing p) (x : ℕ) (l : List ℕ) (C : Called p (x ∷ l)) where
     abbrev first : Threads
     first = wakes why x p
 
-    first-stopped : Stopped (recordIn p x)
+    first-stopped : Stopped (threadIn p x)
     first-stopped = C x (count-head x l) .1
 
     abbrev reason : Wake
-    reason = why (recordIn p x)
+    reason = why (threadIn p x)
 
     abbrev reply′ : ℕ
-    reply′ = recordIn p x .reply
+    reply′ = threadIn p x .reply
 
     -- x stands first and nowhere else in l, so the rest of l are other threads, as they were
     first-once : count x l ≡ 0
@@ -130,8 +130,8 @@ module _ (why : Thread → Wake) where
     rest-other : (t : ℕ) → 0 < count t l → t ≡ x → ⊥
     rest-other t c e = omega (arith, first-once, rw e at c)
 
-    other : {t : ℕ} → (t ≡ x → ⊥) → recordIn first t ≡ recordIn p t
-    other ne = relocate-other p x (readied reason reply′ (recordIn p x)) ne
+    other : {t : ℕ} → (t ≡ x → ⊥) → threadIn first t ≡ threadIn p t
+    other ne = relocate-other p x (readied reason reply′ (threadIn p x)) ne
 
     rest-called : Called first l
     rest-called t c =
@@ -140,33 +140,33 @@ module _ (why : Thread → Wake) where
         rw (other ne) (rw (ne-eqb x t (λ e. ne (sym e))) at once, W)
 
     -- the first wakes, then the rest
-    first-list : (q : ℕ) → q < 256 → lineIn first q ≡ lineIn p q ++ keep (λ t. eqb (recordIn p t .priority) q) (x ∷ [])
+    first-list : (q : ℕ) → q < 256 → atHomeIn first q ≡ atHomeIn p q ++ keep (λ t. eqb (threadIn p t .priority) q) (x ∷ [])
     first-list q b =
-        cases (eqb (recordIn p x .priority) q)
-        (λ e. rw (e, ← eqb-true (recordIn p x .priority) q e) (woken-last S x first-stopped reason reply′))
+        cases (eqb (threadIn p x .priority) q)
+        (λ e. rw (e, ← eqb-true (threadIn p x .priority) q e) (woken-last S x first-stopped reason reply′))
         (λ e. rw (e, append-nil)
-        (woken-leaves S x first-stopped reason reply′ (λ z. eqb-false (recordIn p x .priority) q e (sym z)) ∙ stopped-list S x first-stopped b))
+        (woken-leaves S x first-stopped reason reply′ (λ z. eqb-false (threadIn p x .priority) q e (sym z)) ∙ stopped-list S x first-stopped b))
 
     module _ {p′ : Threads} (R : AllWoken why l first p′) where
-      next-lists : (q : ℕ) → q < 256 → lineIn p′ q ≡ lineIn p q ++ keep (λ t. eqb (recordIn p t .priority) q) (x ∷ l)
+      next-lists : (q : ℕ) → q < 256 → atHomeIn p′ q ≡ atHomeIn p q ++ keep (λ t. eqb (threadIn p t .priority) q) (x ∷ l)
       next-lists q b =
-          let f : ℕ → Bool = λ t. eqb (recordIn p t .priority) q in
-          let z : keep (λ t. eqb (recordIn first t .priority) q) l ≡ keep f l =
+          let f : ℕ → Bool = λ t. eqb (threadIn p t .priority) q in
+          let z : keep (λ t. eqb (threadIn first t .priority) q) l ≡ keep f l =
           keep-same l (λ t c. ap (λ (r : Thread). eqb (r .priority) q) (other (rest-other t c))) in
           R .lists q b ∙ rw (first-list q b, z, append-assoc, ← keep-append f (x ∷ []) l)
 
-      next-woken : (t : ℕ) → 0 < count t (x ∷ l) → recordIn p′ t ≡ readied (why (recordIn p t)) (recordIn p t .reply) (recordIn p t)
+      next-woken : (t : ℕ) → 0 < count t (x ∷ l) → threadIn p′ t ≡ readied (why (threadIn p t)) (threadIn p t .reply) (threadIn p t)
       next-woken t c =
           cases (eqb x t)
           (λ e. rw (← eqb-true x t e) (R .others x first-once ∙ woken-same S x first-stopped reason reply′))
           (λ e. rw (other {t = t} (λ z. eqb-false x t e (sym z))) at (R .woken t (rw e at c)))
 
-      next-others : (t : ℕ) → count t (x ∷ l) ≡ 0 → recordIn p′ t ≡ recordIn p t
+      next-others : (t : ℕ) → count t (x ∷ l) ≡ 0 → threadIn p′ t ≡ threadIn p t
       next-others t c =
           cases (eqb x t) (λ e. absurd (omega (arith, rw e at c)))
           (λ e. R .others t (rw e at c) ∙ other (λ z. eqb-false x t e (sym z)))
 
-      next-queues : (h : ℕ) → 256 ≤ h → lineIn p′ h ≡ withoutAll (x ∷ l) (lineIn p h)
+      next-queues : (h : ℕ) → 256 ≤ h → atHomeIn p′ h ≡ withoutAll (x ∷ l) (atHomeIn p h)
       next-queues h b =
           R .queues h b
           ∙ rw (woken-leaves S x first-stopped reason reply′ {h = h} (λ z. omega (arith, first-stopped .byte)), withoutAll-next x l)
@@ -178,8 +178,8 @@ module _ (why : Thread → Wake) where
   pub each-woken : (l : List ℕ) {p : Threads} → Standing p → Called p l → AllWoken why l p (each (wakes why) l p)
   each-woken [] {p} S C = record {
     standing = S;
-    lists = λ q b. sym (append-nil (lineIn p q));
-    queues = λ h b. sym (keep-all (lineIn p h) (λ _ _. refl));
+    lists = λ q b. sym (append-nil (atHomeIn p q));
+    queues = λ h b. sym (keep-all (atHomeIn p h) (λ _ _. refl));
     time = sym (keep-all (items (p .time)) (λ _ _. refl));
     woken = λ t c. absurd (omega arith);
     others = λ t c. refl;

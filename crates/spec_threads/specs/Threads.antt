@@ -14,7 +14,7 @@ use Rattle.spec_kernel.specs.declared.records.Kernel.{Kernel}
 use Rattle.spec_kernel.specs.Records.{thread, message, noThread, noMessage}
 use Rattle.spec_kernel.specs.Free.{freeThread}
 use Rattle.spec_calls.specs.declared.call.Call.{Call}
-use Rattle.spec_moves.specs.States.{withPosts, place, asByte}
+use Rattle.spec_moves.specs.States.{withPosts, moveThread, asByte}
 
 -- "A new thread .. has wake reason none and reply 255."
 abbrev pub born : ℕ → Thread
@@ -61,15 +61,15 @@ withPriority priority r =
 
 -- "The thread leaves the ready list and joins its queue behind equal priorities. Timeout 0 waits for ever."
 unfoldable pub block : Condition → ℕ → Kernel → Kernel
-block condition timeout k = place (k .runner) (blocked condition timeout (thread k (k .runner))) k
+block condition timeout k = moveThread (k .runner) (blocked condition timeout (thread k (k .runner))) k
 
 -- "Waking takes it out of every queue and puts it last in its priority's list."
 unfoldable pub wake : Wake → ℕ → Kernel → Kernel
-wake why t k = place t (awake why (thread k t .reply) (thread k t)) k
+wake why t k = moveThread t (awake why (thread k t .reply) (thread k t)) k
 
 -- kind 2: create thread, priority a
 unfoldable pub createThread : Kernel → Call → Kernel
-createThread k c = place (freeThread k) (born (c .a)) k
+createThread k c = moveThread (freeThread k) (born (c .a)) k
 
 -- "frees every message it owns"
 abbrev pub owns : ℕ → Message → Bool
@@ -89,19 +89,19 @@ freeMessages t k =
 
 -- kind 3: "Destroy removes a thread from every queue and frees every message it owns."
 unfoldable pub destroyThread : Kernel → Call → Kernel
-destroyThread k c = place (c .a) noThread (freeMessages (c .a) k)
+destroyThread k c = moveThread (c .a) noThread (freeMessages (c .a) k)
 
 -- kinds 4 and 5: "Set or reset priority puts a ready thread last in its new list and a waiter behind equals, even where
 -- the priority is the same; reset uses the first priority."
 unfoldable pub setPriority : Kernel → Call → Kernel
-setPriority k c = place (c .a) (withPriority (asByte (c .b)) (thread k (c .a))) k
+setPriority k c = moveThread (c .a) (withPriority (asByte (c .b)) (thread k (c .a))) k
 
 unfoldable pub resetPriority : Kernel → Call → Kernel
-resetPriority k c = place (c .a) (withPriority (thread k (c .a) .first) (thread k (c .a))) k
+resetPriority k c = moveThread (c .a) (withPriority (thread k (c .a) .first) (thread k (c .a))) k
 
 -- kind 6: "Yield puts the caller last in its list."
 unfoldable pub yielded : Kernel → Call → Kernel
-yielded k c = place (k .runner) (thread k (k .runner)) k
+yielded k c = moveThread (k .runner) (thread k (k .runner)) k
 
 -- kind 7: sleep c
 unfoldable pub sleep : Kernel → Call → Kernel

@@ -20,9 +20,9 @@ use Rattle.spec_kernel.specs.declared.records.Semaphore.{Semaphore}
 use Rattle.spec_kernel.specs.declared.records.Kernel.{Kernel}
 use Rattle.spec_moves.specs.declared.parts.Threads.{Threads}
 use Rattle.spec_kernel.specs.Records.{thread, semaphore, noThread}
-use Rattle.spec_kernel.specs.Places.{homeOf, line, readyList, semaphoreQueue, timeQueue}
-use Rattle.spec_moves.specs.Moves.{recordIn}
-use Rattle.spec_moves.specs.Standing.{threadsOf, lineIn, Standing}
+use Rattle.spec_kernel.specs.Places.{homeOf, atHome, readyList, semaphoreQueue, timeQueue}
+use Rattle.spec_moves.specs.Moves.{threadIn}
+use Rattle.spec_moves.specs.Standing.{threadsOf, atHomeIn, Standing}
 use Rattle.spec_calls.specs.declared.call.Call.{Call}
 use Rattle.spec_moves.specs.States.{withThreads, withSemaphores, withSemaphore, withUptime, each}
 use Rattle.spec_threads.specs.Threads.{wake}
@@ -56,7 +56,7 @@ pub record TimePassed (k k′ : Kernel) : Type 0 where
   -- in time queue order: each ready list gets those of its priority
   pub lists : (p : ℕ) → p < 256 → readyList k′ p ≡ readyList k p ++ keep (λ t. eqb (thread k t .priority) p) (keep (isDue k) (timeQueue k))
   -- they are out of every queue and out of the time queue, and the others keep their order there
-  pub queues : (h : ℕ) → 256 ≤ h → line k′ h ≡ keep (λ t. not (isDue k t)) (line k h)
+  pub queues : (h : ℕ) → 256 ≤ h → atHome k′ h ≡ keep (λ t. not (isDue k t)) (atHome k h)
   pub time : timeQueue k′ ≡ keep (λ t. not (isDue k t)) (timeQueue k)
 
 -- each wakes for its timeout
@@ -103,11 +103,11 @@ module _ (k : Kernel) (S : Standing (threadsOf k)) (T : (t : ℕ) → 0 < thread
       (λ e. rw (e, due-not t (eqb-false (thread k t .ticks) 1 e)))
 
   -- ageing changes the ticks left, and moves nobody
-  aged-record : (t : ℕ) → thread after t ≡ aged (recordIn woken t)
+  aged-record : (t : ℕ) → thread after t ≡ aged (threadIn woken t)
   unfolding timePasses ageAll
   aged-record t = List·getD-map aged (woken .records) t noThread
 
-  aged-line : (h : ℕ) → line after h ≡ lineIn woken h
+  aged-line : (h : ℕ) → atHome after h ≡ atHomeIn woken h
   unfolding timePasses ageAll homeOf
   aged-line h = keep-same (items (woken .places)) λ t _. rw (aged-record t)
 
@@ -123,7 +123,7 @@ module _ (k : Kernel) (S : Standing (threadsOf k)) (T : (t : ℕ) → 0 < thread
     wakes = λ t e. aged-record t ∙ rw (all-woken .woken t (rw (due-once t e) (omega arith)));
     others = λ t e. aged-record t ∙ rw (all-woken .others t (due-not t (λ z. omega arith))) (untimed-stays (thread k t) e);
     lists = λ q b. aged-line q ∙ all-woken .lists q b;
-    queues = λ h b. aged-line h ∙ all-woken .queues h b ∙ due-left (line k h);
+    queues = λ h b. aged-line h ∙ all-woken .queues h b ∙ due-left (atHome k h);
     time = aged-time ∙ all-woken .time ∙ due-left (timeQueue k);
   }
 

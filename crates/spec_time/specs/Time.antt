@@ -13,7 +13,7 @@ use Rattle.spec_kernel.specs.declared.records.Thread.{Thread}
 use Rattle.spec_kernel.specs.declared.records.Kernel.{Kernel}
 use Rattle.spec_moves.specs.declared.parts.Threads.{Threads}
 use Rattle.spec_kernel.specs.Records.{semaphore}
-use Rattle.spec_moves.specs.Moves.{relocate, recordIn}
+use Rattle.spec_moves.specs.Moves.{relocate, threadIn}
 use Rattle.spec_moves.specs.Standing.{threadsOf}
 use Rattle.spec_calls.specs.declared.call.Call.{Call}
 use Rattle.spec_moves.specs.States.{withThreads, withSemaphore, withUptime, each}
@@ -33,11 +33,11 @@ reasonAt (ForEvent i) = Wake.TimedOut Object.Event
 reasonAt (ForMessage mask) = Wake.TimedOut Object.Message
 
 unfoldable pub timeUp : ℕ → Threads → Threads
-timeUp t p = relocate t (awake (reasonAt (recordIn p t .condition)) (recordIn p t .reply) (recordIn p t)) p
+timeUp t p = relocate t (awake (reasonAt (threadIn p t .condition)) (threadIn p t .reply) (threadIn p t)) p
 
 -- those whose last tick this is, in time queue order
 unfoldable pub due : Threads → List ℕ
-due p = keep (λ t. eqb (recordIn p t .ticks) 1) (items (p .time))
+due p = keep (λ t. eqb (threadIn p t .ticks) 1) (items (p .time))
 
 abbrev pub aged : Thread → Thread
 aged r =

@@ -65,7 +65,7 @@ pub fn yields(old: Kernel, note: &[u8], end: Kernel) -> bool
     ensures { λ r. ⌜ r ≡ yieldsNote old (now (note .entry)) end ⌝ }
 {
     let mut own = [0u8; 4096];
-    let l = logs::called(old, last::record_in(note), &mut own, 0);
+    let l = logs::called(old, last::call_bytes(note), &mut own, 0);
     if !came_back(l, noted_answer(note, end.runner), end, note.len()) {
         return false;
     }

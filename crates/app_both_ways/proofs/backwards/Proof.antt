@@ -28,8 +28,8 @@ put-undo-requires c κs = search needs
 slice-aggregate-front : tie.Need-slice-aggregate-front Inv-loop μ-loop
 slice-aggregate-front c = search needs
 
-front-requires : tie.Need-front-requires Inv-loop μ-loop
-front-requires c κs = search needs
+up-to-requires : tie.Need-up-to-requires Inv-loop μ-loop
+up-to-requires c κs = search needs
 
 write-all-requires : tie.Need-write-all-requires Inv-loop μ-loop
 write-all-requires c κs = search needs
@@ -61,7 +61,7 @@ backwards-spec =
     slice-aggregate-put-undo
     put-undo-requires
     slice-aggregate-front
-    front-requires
+    up-to-requires
     write-all-requires
     undo-requires-2
     sub-turns

@@ -18,17 +18,17 @@ loop-holds c = search needs
 sub-loop : tie.Need-sub-loop Inv-loop μ-loop
 sub-loop c = search needs
 
-sub-record-in : tie.Need-sub-record-in Inv-loop μ-loop
-sub-record-in c = search needs
+sub-call-bytes : tie.Need-sub-call-bytes Inv-loop μ-loop
+sub-call-bytes c = search needs
 
-part-record-in-start : tie.Need-part-record-in-start Inv-loop μ-loop
-part-record-in-start c = search needs
+part-call-bytes-start : tie.Need-part-call-bytes-start Inv-loop μ-loop
+part-call-bytes-start c = search needs
 
-part-record-in-end : tie.Need-part-record-in-end Inv-loop μ-loop
-part-record-in-end c = search needs
+part-call-bytes-end : tie.Need-part-call-bytes-end Inv-loop μ-loop
+part-call-bytes-end c = search needs
 
-record-in-requires : tie.Need-record-in-requires Inv-loop μ-loop
-record-in-requires c κs = search needs
+call-bytes-requires : tie.Need-call-bytes-requires Inv-loop μ-loop
+call-bytes-requires c κs = search needs
 
 recorded-requires : tie.Need-recorded-requires Inv-loop μ-loop
 recorded-requires c κs = search needs
@@ -57,8 +57,8 @@ loop-again c = search needs
 slice-aggregate-front : tie.Need-slice-aggregate-front Inv-loop μ-loop
 slice-aggregate-front c = search needs
 
-front-requires : tie.Need-front-requires Inv-loop μ-loop
-front-requires c κs = search needs
+up-to-requires : tie.Need-up-to-requires Inv-loop μ-loop
+up-to-requires c κs = search needs
 
 write-all-requires : tie.Need-write-all-requires Inv-loop μ-loop
 write-all-requires c κs = search needs
@@ -77,10 +77,10 @@ forward-spec =
     μ-loop
     loop-holds
     sub-loop
-    sub-record-in
-    part-record-in-start
-    part-record-in-end
-    record-in-requires
+    sub-call-bytes
+    part-call-bytes-start
+    part-call-bytes-end
+    call-bytes-requires
     recorded-requires
     wrapping-add-u64-requires
     wrapping-sub-usize-requires
@@ -90,7 +90,7 @@ forward-spec =
     loop-less
     loop-again
     slice-aggregate-front
-    front-requires
+    up-to-requires
     write-all-requires
     same-length
     returns)

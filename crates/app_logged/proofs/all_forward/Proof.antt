@@ -34,8 +34,8 @@ loop-less c = search needs
 loop-again : tie.Need-loop-again Inv-loop μ-loop
 loop-again c = search needs
 
-front-requires : tie.Need-front-requires Inv-loop μ-loop
-front-requires c κs = search needs
+up-to-requires : tie.Need-up-to-requires Inv-loop μ-loop
+up-to-requires c κs = search needs
 
 write-all-requires : tie.Need-write-all-requires Inv-loop μ-loop
 write-all-requires c κs = search needs
@@ -57,6 +57,6 @@ all-forward-spec =
     sub-turns
     loop-less
     loop-again
-    front-requires
+    up-to-requires
     write-all-requires
     returns)

@@ -1,4 +1,4 @@
--- `bits::all_match` meets its contract. No masked bit differs from its value.
+-- `base_bits::all_match` meets its contract. No masked bit differs from its value.
 -- Assumes nothing.
 use Rattle.base_bits.proofs.Matches.{none-wrong}
 use Rattle.base_bits.proofs.all_match.Statement.{statement}

@@ -1,4 +1,4 @@
--- `bits::any_match` meets its contract. Not every masked bit differs from its value.
+-- `base_bits::any_match` meets its contract. Not every masked bit differs from its value.
 -- Assumes nothing.
 use Rattle.base_bits.proofs.Matches.{some-right}
 use Rattle.base_bits.proofs.any_match.Statement.{statement}

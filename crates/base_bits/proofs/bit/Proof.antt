@@ -1,4 +1,4 @@
--- `bits::bit` meets its contract. The shift brings bit i down to the lowest digit.
+-- `base_bits::bit` meets its contract. The shift brings bit i down to the lowest digit.
 -- Assumes nothing.
 use borrow.Author.Needs.{needs}
 use mathlib.Core.Path.{sym}

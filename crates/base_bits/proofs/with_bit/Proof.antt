@@ -1,4 +1,4 @@
--- `bits::with_bit` meets its contract. `|` adds the bit where it is clear.
+-- `base_bits::with_bit` meets its contract. `|` adds the bit where it is clear.
 -- Assumes nothing.
 use borrow.Author.Needs.{needs}
 use mathlib.Core.Path.{sym}

@@ -1,4 +1,4 @@
--- `bits::without_bit` meets its contract. What is taken away is the bit where it is set, and nothing where it is clear.
+-- `base_bits::without_bit` meets its contract. What is taken away is the bit where it is set, and nothing where it is clear.
 -- Assumes nothing.
 use borrow.Author.Needs.{needs}
 use mathlib.Core.Path.{sym}

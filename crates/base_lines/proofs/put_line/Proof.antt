@@ -1,4 +1,4 @@
--- `lines::put_line` meets its contract: what is still to write is the line of the numbers from i on.
+-- `base_lines::put_line` meets its contract: what is still to write is the line of the numbers from i on.
 use Prim.Native.Nat.{_-_, _≤_, _<_}
 use mathlib.Core.Path.{_≡_, sym, _∙_}
 use native.Mathlib.Omega.{arith}

@@ -1,4 +1,4 @@
--- `lines::put_number` meets its contract: the digits that `io` counts are the number's decimal digits.
+-- `base_lines::put_number` meets its contract: the digits that `io` counts are the number's decimal digits.
 use Prim.Native.Nat.{_<_, _^_}
 use mathlib.Core.Path.{_≡_, sym, ap, _∙_}
 use mathlib.Core.List.{[], _∷_}

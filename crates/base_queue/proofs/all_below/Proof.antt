@@ -1,4 +1,4 @@
--- `queue::all_below` meets its contract: the i places passed are below the bound, so the test of all is that of the rest.
+-- `base_queue::all_below` meets its contract: the i places passed are below the bound, so the test of all is that of the rest.
 use Prim.Native.Nat.{ℕ, _-_}
 use mathlib.Core.Path.{_≡_, refl, sym, _∙_}
 use mathlib.Core.Bool.{Bool}

@@ -1,4 +1,4 @@
--- `queue::contains` meets its contract: who stands in the queue has a place below its size.
+-- `base_queue::contains` meets its contract: who stands in the queue has a place below its size.
 use borrow.Author.Needs.{needs}
 use Rattle.base_queue.specs.Queues.{items}
 use Rattle.base_queue.proofs.Lists.{has-place}

@@ -1,4 +1,4 @@
--- `queue::count` meets its contract: c says how often x stands among the i places passed.
+-- `base_queue::count` meets its contract: c says how often x stands among the i places passed.
 use Prim.Native.Nat.{_-_, _≤_}
 use mathlib.Core.Path.{_≡_, refl}
 use native.Mathlib.Omega.{arith}

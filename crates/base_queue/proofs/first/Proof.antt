@@ -1,4 +1,4 @@
--- `queue::first` meets its contract: what the queue holds begins with its store's first place.
+-- `base_queue::first` meets its contract: what the queue holds begins with its store's first place.
 use mathlib.Core.Path.{sym, ap}
 use native.Mathlib.Omega.{arith}
 use borrow.Author.Needs.{needs}

@@ -1,4 +1,4 @@
--- `queue::fronted` meets its contract: i places are copied, and the others are 0.
+-- `base_queue::fronted` meets its contract: i places are copied, and the others are 0.
 use Prim.Native.Nat.{ℕ, _-_, _≤_}
 use mathlib.Core.Path.{_≡_, refl}
 use mathlib.Core.List.{List}

@@ -1,4 +1,4 @@
--- `queue::is_tidy` meets its contract: from the length on, the places before i are 0, so the test of all is that of the rest.
+-- `base_queue::is_tidy` meets its contract: from the length on, the places before i are 0, so the test of all is that of the rest.
 use Prim.Native.Nat.{ℕ, _-_, _≤_}
 use mathlib.Core.Path.{_≡_, _∙_}
 use mathlib.Core.Bool.{Bool}

@@ -1,4 +1,4 @@
--- `queue::place_of` meets its contract: x is not among the i places passed, so its place is i and its place in the rest.
+-- `base_queue::place_of` meets its contract: x is not among the i places passed, so its place is i and its place in the rest.
 use Prim.Native.Nat.{ℕ, _+_, _-_}
 use mathlib.Core.Path.{_≡_}
 use native.Mathlib.Omega.{arith}

@@ -1,4 +1,4 @@
--- `queue::size` meets its contract: a queue's store has 64 places.
+-- `base_queue::size` meets its contract: a queue's store has 64 places.
 use mathlib.Core.Path.{_≡_}
 use native.Mathlib.Omega.{arith}
 use lib.ListN.{length, length-take}

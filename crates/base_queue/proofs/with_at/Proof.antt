@@ -1,4 +1,4 @@
--- `queue::with_at` meets its contract: a holds the first k + 1 of those that stand there with x. The place of x is i, or the end.
+-- `base_queue::with_at` meets its contract: a holds the first k + 1 of those that stand there with x. The place of x is i, or the end.
 use Prim.Native.Nat.{ℕ, _+_, _-_, _≤_, _<_, min}
 use mathlib.Core.Path.{_≡_, sym, ap, _∙_}
 use mathlib.Core.List.{List}

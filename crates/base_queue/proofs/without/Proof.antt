@@ -1,4 +1,4 @@
--- `queue::without` meets its contract: a holds those of the i places passed that are not x, and k says how many they are.
+-- `base_queue::without` meets its contract: a holds those of the i places passed that are not x, and k says how many they are.
 use Prim.Native.Nat.{ℕ, _-_, _≤_}
 use mathlib.Core.Path.{_≡_, refl, sym}
 use mathlib.Core.List.{List, append-nil}

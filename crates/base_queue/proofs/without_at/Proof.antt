@@ -1,4 +1,4 @@
--- `queue::without_at` meets its contract: a holds the first k - 1 of those that stay.
+-- `base_queue::without_at` meets its contract: a holds the first k - 1 of those that stay.
 use Prim.Native.Nat.{ℕ, suc, _+_, _-_, _≤_, _<_}
 use mathlib.Core.Path.{_≡_, sym, ap, _∙_}
 use mathlib.Core.List.{List}

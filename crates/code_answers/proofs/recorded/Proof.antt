@@ -11,7 +11,7 @@ use Rattle.spec_calls.specs.Calls.{callOf}
 use Rattle.spec_refusals.specs.Refusals.{numberOf}
 use Rattle.code_calls.specs.Named.{namedBy}
 use Rattle.code_notes.specs.Spans.{frontIn, noteIn}
-use Rattle.code_notes.proofs.Fronts.{front-puts, front-closed, note-short}
+use Rattle.code_notes.proofs.BeforeLength.{sections-put, note-closed, note-short}
 use Rattle.code_notes.proofs.Sizes.{composed}
 use Rattle.code_notes.proofs.Waiters.{waiter-found}
 use Rattle.spec_answers.specs.Steps.{nextState}
@@ -94,7 +94,7 @@ fronted c =
       c .before .before .before .before .before .before .before .before .before .before .before .before .put-start .ensures,
       c .before .before .before .before .before .before .before .before .before .before .before .before .before .before .before .before .before .before .call-of .ensures,
     )
-    (front-puts _ (a .k) (a .bytes) _ _ _ (waiter-found (a .k) (callOf (a .bytes)) _ _ _ named))
+    (sections-put _ (a .k) (a .bytes) _ _ _ (waiter-found (a .k) (callOf (a .bytes)) _ _ _ named))
 
 slice-aggregate-put-end : tie.Need-slice-aggregate-put-end
 slice-aggregate-put-end c = search needs
@@ -111,7 +111,7 @@ composed-note c =
     let bytes = s .args .bytes in
     let sixteen : length bytes ≡ 16 = s .good .1 .0 .1 .0 .1 in
     let room : 2048 ≤ length {A = ℕ} (replicate 2048 0) = rw length-replicate (omega arith) in
-    let e = front-closed (replicate 2048 0) _ _ k bytes _ _ _ sixteen room (fronted (c .before .before .before)) (c .put-end .ensures) in
+    let e = note-closed (replicate 2048 0) _ _ k bytes _ _ _ sixteen room (fronted (c .before .before .before)) (c .put-end .ensures) in
     let w = composed (replicate 2048 0) _ _ _ e (rw length-replicate (omega (arith, note-short k bytes (c .before .before .before .before .before .before .before .before .before .before .before .before .before .before .before .before .before .next-state .result) (c .before .before .before .before .before .before .before .before .before .before .before .before .before .before .before .before .before .before .before .before .named-by .result .found) sixteen))) in
     (w .0, w .1)
 

@@ -1,4 +1,4 @@
--- `acting::effect` meets its contract: each arm does what the table has at its kind.
+-- `code_effects::effect` meets its contract: each arm does what the table has at its kind.
 use Prim.Native.Nat.{ℕ, _≤_, _<_}
 use mathlib.Core.Path.{_≡_, refl, _∙_}
 use mathlib.Core.Logic.{_⊎_, ⊎-elim, inl, inr}
@@ -12,15 +12,15 @@ use Rattle.spec_kernel.specs.declared.records.Kernel.{Kernel}
 use Rattle.spec_calls.specs.declared.call.Call.{Call}
 use Rattle.spec_calls.proofs.KindRuns.{asKind}
 use Rattle.code_events.specs.Signals.{signalled}
-use Rattle.spec_effects.specs.Effects.{kinds, noKind, effect}
+use Rattle.spec_effects.specs.Effects.{effectsOfKinds, noKind, effect}
 use Rattle.spec_effects.proofs.ByKind.{NoneOf, none-of, does-at, does-past}
 use Rattle.code_effects.proofs.effect.Statement.{statement}
 use Rattle.code_effects.proofs.effect.Tie as tie
 
 -- what the five kinds of signals do, by the number of the kind
-signals-at : (k : Kernel) (c : Call) (m : ℕ) → signalled k (asKind c m) ≡ getD kinds m noKind .does k (asKind c m) → c .kind ≡ m → signalled k c ≡ effect k c
+signals-at : (k : Kernel) (c : Call) (m : ℕ) → signalled k (asKind c m) ≡ getD effectsOfKinds m noKind .does k (asKind c m) → c .kind ≡ m → signalled k c ≡ effect k c
 signals-at k c m h e =
-    let mid : signalled k c ≡ getD kinds m noKind .does k c = rw e h in
+    let mid : signalled k c ≡ getD effectsOfKinds m noKind .does k c = rw e h in
     mid ∙ does-at k c m e
 
 -- none of the kinds that have an arm of their own

@@ -1,4 +1,4 @@
--- `signals::changed` meets its contract: by the kind.
+-- `code_events::changed` meets its contract: by the kind.
 use mathlib.Core.Logic.{⊎-elim, inl, inr}
 use borrow.Author.Needs.{needs}
 use borrow.Author.Tests.{ne-eqb}

@@ -1,4 +1,4 @@
--- `signals::loaded` meets its contract: the event is stored, and past the last one nothing is.
+-- `code_events::loaded` meets its contract: the event is stored, and past the last one nothing is.
 use mathlib.Core.Path.{_≡_, sym, _∙_}
 use native.Mathlib.Omega.{arith}
 use lib.ListN.{length, length-map}

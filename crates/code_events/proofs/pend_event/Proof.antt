@@ -1,4 +1,4 @@
--- `signals::pend_event` meets its contract: whether it is TRUE decides.
+-- `code_events::pend_event` meets its contract: whether it is TRUE decides.
 use mathlib.Core.Path.{_≡_, sym, ap, _∙_}
 use borrow.Author.Needs.{needs}
 use Rattle.spec_kernel.specs.Records.{event}

@@ -1,4 +1,4 @@
--- `signals::signalled` meets its contract.
+-- `code_events::signalled` meets its contract.
 use mathlib.Core.Path.{_∙_}
 use borrow.Author.Needs.{needs}
 use Rattle.code_events.proofs.signalled.Statement.{statement}

@@ -1,4 +1,4 @@
--- `signals::woken_in` meets its contract: of the i places passed, those whose home is h have woken. Where the arms meet, `home` is the home of the member at i; past the records that is the home of no thread.
+-- `code_events::woken_in` meets its contract: of the i places passed, those whose home is h have woken. Where the arms meet, `home` is the home of the member at i; past the records that is the home of no thread.
 use Prim.Native.Nat.{_-_}
 use mathlib.Core.Path.{_≡_, sym, ap, _∙_}
 use mathlib.Core.Logic.{⊎-elim}

@@ -1,4 +1,4 @@
--- `signals::worked_in` meets its contract: the first i events are worked out.
+-- `code_events::worked_in` meets its contract: the first i events are worked out.
 use Prim.Native.Nat.{ℕ, _≤_, _-_}
 use mathlib.Core.Path.{_≡_, refl, sym, ap, _∙_}
 use native.Mathlib.Omega.{arith}

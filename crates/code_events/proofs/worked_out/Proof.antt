@@ -1,4 +1,4 @@
--- `signals::worked_out` meets its contract: the part of the threads is worked out and put anew.
+-- `code_events::worked_out` meets its contract: the part of the threads is worked out and put anew.
 use borrow.Author.Needs.{needs}
 use Rattle.spec_events.specs.Events.{workedOut}
 use Rattle.code_events.proofs.worked_out.Statement.{statement}

@@ -1,4 +1,4 @@
--- `mail::create_message` meets its contract: the lowest free id gets a new record.
+-- `code_messages::create_message` meets its contract: the lowest free id gets a new record.
 use borrow.Author.Needs.{needs}
 use Rattle.spec_messages.specs.Messages.{createMessage}
 use Rattle.code_messages.proofs.create_message.Statement.{statement}

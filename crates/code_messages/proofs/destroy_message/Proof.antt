@@ -1,4 +1,4 @@
--- `mail::destroy_message` meets its contract: it gets the record of no message.
+-- `code_messages::destroy_message` meets its contract: it gets the record of no message.
 use borrow.Author.Needs.{needs}
 use Rattle.spec_messages.specs.Messages.{destroyMessage}
 use Rattle.code_messages.proofs.destroy_message.Statement.{statement}

@@ -1,4 +1,4 @@
--- `mail::hand_over` meets its contract: the message changes hands, and its recipient wakes.
+-- `code_messages::hand_over` meets its contract: the message changes hands, and its recipient wakes.
 use borrow.Author.Needs.{needs}
 use Rattle.spec_messages.specs.Messages.{handOver}
 use Rattle.code_messages.proofs.hand_over.Statement.{statement}

@@ -1,4 +1,4 @@
--- `mail::pend_message` meets its contract: 255 says that there is none.
+-- `code_messages::pend_message` meets its contract: 255 says that there is none.
 use mathlib.Core.Path.{sym, _∙_}
 use borrow.Author.Tests.{eq-eqb, ne-eqb}
 use borrow.Author.Needs.{needs}

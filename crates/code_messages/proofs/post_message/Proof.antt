@@ -1,4 +1,4 @@
--- `mail::post_message` meets its contract: what the recipient waits for decides.
+-- `code_messages::post_message` meets its contract: what the recipient waits for decides.
 use mathlib.Core.Path.{_≡_, sym, ap, _∙_}
 use borrow.Author.Needs.{needs}
 use Rattle.spec_kernel.specs.declared.records.Thread.{Thread}

@@ -1,4 +1,4 @@
--- `mail::receive` meets its contract: its record is put anew.
+-- `code_messages::receive` meets its contract: its record is put anew.
 use borrow.Author.Needs.{needs}
 use Rattle.spec_messages.specs.Messages.{receive}
 use Rattle.code_messages.proofs.receive.Statement.{statement}

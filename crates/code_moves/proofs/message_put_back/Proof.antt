@@ -1,4 +1,4 @@
--- `moving::message_put_back` meets its contract: the record is stored, and the table is as its step says.
+-- `code_moves::message_put_back` meets its contract: the record is stored, and the table is as its step says.
 use borrow.Author.Needs.{needs}
 use borrow.Author.Tests.{lt-ltb, le-ltb}
 use Rattle.spec_moves.specs.Moves.{putMessageBack}

@@ -1,4 +1,4 @@
--- `moving::post_place` meets its contract: none of the i places passed is of a later stream. Where the arms meet, `other` is the stream of the member at i; past the records that is 0.
+-- `code_moves::post_place` meets its contract: none of the i places passed is of a later stream. Where the arms meet, `other` is the stream of the member at i; past the records that is 0.
 use Prim.Native.Nat.{ℕ, _-_}
 use mathlib.Core.Path.{_≡_, sym, ap, _∙_}
 use mathlib.Core.Logic.{⊎-elim}

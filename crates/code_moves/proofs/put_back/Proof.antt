@@ -1,4 +1,4 @@
--- `moving::put_back` meets its contract: x leaves, and comes back at its place unless that is none.
+-- `code_moves::put_back` meets its contract: x leaves, and comes back at its place unless that is none.
 use borrow.Author.Needs.{needs}
 use Rattle.spec_moves.proofs.Joins.{comes-back, stays-out}
 use Rattle.code_moves.proofs.put_back.Statement.{statement}

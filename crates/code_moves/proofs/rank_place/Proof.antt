@@ -1,4 +1,4 @@
--- `moving::rank_place` meets its contract: none of the i places passed ranks after `rank`. Where the arms meet, `other` is the rank of the member at i; past the records that is the rank of no thread.
+-- `code_moves::rank_place` meets its contract: none of the i places passed ranks after `rank`. Where the arms meet, `other` is the rank of the member at i; past the records that is the rank of no thread.
 use Prim.Native.Nat.{ℕ, _-_}
 use mathlib.Core.Path.{_≡_, sym, ap, _∙_}
 use mathlib.Core.Logic.{⊎-elim}

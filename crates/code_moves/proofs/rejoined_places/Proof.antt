@@ -1,4 +1,4 @@
--- `moving::rejoined_places` meets its contract: the thread leaves, and where it has a home it joins again at the place of its rank.
+-- `code_moves::rejoined_places` meets its contract: the thread leaves, and where it has a home it joins again at the place of its rank.
 use mathlib.Core.Path.{sym, _∙_}
 use borrow.Author.Needs.{needs}
 use borrow.Author.Tests.{not-true, not-false}

@@ -1,4 +1,4 @@
--- `moving::rejoined_posts` meets its contract: the message leaves, and where it is queued it joins again at the place of its stream.
+-- `code_moves::rejoined_posts` meets its contract: the message leaves, and where it is queued it joins again at the place of its stream.
 use mathlib.Core.Path.{sym, _∙_}
 use borrow.Author.Needs.{needs}
 use borrow.Author.Tests.{not-true, not-false}

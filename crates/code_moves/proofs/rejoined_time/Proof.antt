@@ -1,4 +1,4 @@
--- `moving::rejoined_time` meets its contract: the thread leaves, and where it has ticks left it joins again at their place.
+-- `code_moves::rejoined_time` meets its contract: the thread leaves, and where it has ticks left it joins again at their place.
 use native.Mathlib.Omega.{arith}
 use borrow.Author.Needs.{needs}
 use borrow.Author.Tests.{lt-ltb, le-ltb}

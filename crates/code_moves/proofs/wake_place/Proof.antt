@@ -1,4 +1,4 @@
--- `moving::wake_place` meets its contract: none of the i places passed wakes after `ticks`. Where the arms meet, `other` is what the member at i has left; past the records that is 0.
+-- `code_moves::wake_place` meets its contract: none of the i places passed wakes after `ticks`. Where the arms meet, `other` is what the member at i has left; past the records that is 0.
 use Prim.Native.Nat.{ℕ, _-_}
 use mathlib.Core.Path.{_≡_, sym, ap, _∙_}
 use mathlib.Core.Logic.{⊎-elim}

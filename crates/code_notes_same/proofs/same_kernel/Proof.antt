@@ -1,4 +1,4 @@
--- `same::same_kernel` meets its contract: the first part that differs answers, and the last where none did.
+-- `code_notes_same::same_kernel` meets its contract: the first part that differs answers, and the last where none did.
 use mathlib.Core.Path.{_≡_, refl}
 use mathlib.Core.Bool.{Bool, true, false, _&&_, and-true}
 use mathlib.Core.List.{List, [], _∷_, _++_}

@@ -1,4 +1,4 @@
--- `same::same_numbers` meets its contract: the first number that differs answers, and the last where none did.
+-- `code_notes_same::same_numbers` meets its contract: the first number that differs answers, and the last where none did.
 use mathlib.Core.Bool.{and-true}
 use borrow.Author.Tests.{eq-eqb, ne-eqb}
 use Rattle.spec_notes.specs.Same.{sameNumbers}

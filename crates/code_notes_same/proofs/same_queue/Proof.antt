@@ -1,4 +1,4 @@
--- `same::same_queue` meets its contract: two lengths, then the places.
+-- `code_notes_same::same_queue` meets its contract: two lengths, then the places.
 use borrow.Author.Needs.{needs}
 use borrow.Author.Tests.{eq-eqb, ne-eqb}
 use Rattle.spec_notes.specs.Same.{sameQueue}

@@ -1,4 +1,4 @@
--- `same::same_records` meets its contract: the first kind of record that differs answers, and the last where none did.
+-- `code_notes_same::same_records` meets its contract: the first kind of record that differs answers, and the last where none did.
 use mathlib.Core.Bool.{and-true}
 use borrow.Author.Needs.{needs}
 use Rattle.code_rules_records.proofs.Answers.{refused, passed}

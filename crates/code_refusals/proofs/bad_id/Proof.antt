@@ -1,4 +1,4 @@
--- `refusing::bad_id` meets its contract: each kind that names an id stands in one run or has its own arm.
+-- `code_refusals::bad_id` meets its contract: each kind that names an id stands in one run or has its own arm.
 use Prim.Native.Nat.{_≤_, _<_}
 use mathlib.Core.Path.{_≡_, refl, sym}
 use mathlib.Core.Bool.{false, not, or-false}

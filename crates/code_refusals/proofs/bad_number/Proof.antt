@@ -1,4 +1,4 @@
--- `refusing::bad_number` meets its contract: each kind that has a number to judge has its own arm.
+-- `code_refusals::bad_number` meets its contract: each kind that has a number to judge has its own arm.
 use mathlib.Core.Path.{_≡_, sym, _∙_}
 use mathlib.Core.Bool.{true, false, or-false}
 use borrow.Author.Needs.{needs}

@@ -1,4 +1,4 @@
--- `refusing::blocks_in_region` meets its contract: one of the levels is above 0.
+-- `code_refusals::blocks_in_region` meets its contract: one of the levels is above 0.
 use Prim.Native.Nat.{_+_, _<_}
 use mathlib.Core.Path.{_≡_}
 use mathlib.Core.Bool.{true}

@@ -1,4 +1,4 @@
--- `refusing::has_waiters` meets its contract: kind 15, and somebody waits.
+-- `code_refusals::has_waiters` meets its contract: kind 15, and somebody waits.
 use borrow.Author.Tests.{ne-eqb}
 use Rattle.code_calls.specs.Named.{hasWaitersOf}
 use Rattle.code_refusals.proofs.has_waiters.Statement.{statement}

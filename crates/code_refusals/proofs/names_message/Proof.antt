@@ -1,4 +1,4 @@
--- `refusing::names_message` meets its contract: 25 and 26 are a run.
+-- `code_refusals::names_message` meets its contract: 25 and 26 are a run.
 use Prim.Native.Nat.{_≤_, _<_}
 use mathlib.Core.Path.{_≡_, refl}
 use mathlib.Core.Bool.{true, false}

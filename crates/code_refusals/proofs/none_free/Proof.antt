@@ -1,4 +1,4 @@
--- `refusing::none_free` meets its contract: the creates share an arm, and each push has its own.
+-- `code_refusals::none_free` meets its contract: the creates share an arm, and each push has its own.
 use mathlib.Core.Path.{sym}
 use mathlib.Core.Bool.{or-false}
 use mathlib.Core.Logic.{⊎-elim, inl, inr}

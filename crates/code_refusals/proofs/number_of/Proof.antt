@@ -1,4 +1,4 @@
--- `refusing::number_of` meets its contract: the three parts in order.
+-- `code_refusals::number_of` meets its contract: the three parts in order.
 use mathlib.Core.Path.{_≡_}
 use borrow.Author.Needs.{needs}
 use borrow.Author.Tests.{ne-eqb}

@@ -1,4 +1,4 @@
--- `refusing::outside` meets its contract: below the lowest, or above the highest.
+-- `code_refusals::outside` meets its contract: below the lowest, or above the highest.
 use borrow.Author.Tests.{lt-ltb, le-ltb}
 use Rattle.code_refusals.proofs.outside.Statement.{statement}
 use Rattle.code_refusals.proofs.outside.Tie as tie

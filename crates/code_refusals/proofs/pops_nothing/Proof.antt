@@ -1,4 +1,4 @@
--- `refusing::pops_nothing` meets its contract: each pair of kinds is a run, and pops one level.
+-- `code_refusals::pops_nothing` meets its contract: each pair of kinds is a run, and pops one level.
 use Prim.Native.Nat.{ℕ, _≤_, _<_}
 use mathlib.Core.Path.{_≡_, refl, sym}
 use mathlib.Core.Bool.{false, or-false}

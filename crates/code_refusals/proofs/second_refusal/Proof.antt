@@ -1,4 +1,4 @@
--- `refusing::second_refusal` meets its contract: the tests stand in the table's order.
+-- `code_refusals::second_refusal` meets its contract: the tests stand in the table's order.
 use mathlib.Core.Path.{_≡_, sym, _∙_}
 use mathlib.Core.Bool.{false, not, cond}
 use lib.Dec.{eqb}

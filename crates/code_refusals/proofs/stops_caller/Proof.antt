@@ -1,4 +1,4 @@
--- `refusing::stops_caller` meets its contract: 6 and 7 are a run, and each other kind that can stop its caller has its own arm.
+-- `code_refusals::stops_caller` meets its contract: 6 and 7 are a run, and each other kind that can stop its caller has its own arm.
 use Prim.Native.Nat.{_≤_, _<_}
 use mathlib.Core.Path.{_≡_, refl, sym}
 use mathlib.Core.Bool.{true, false, or-false}

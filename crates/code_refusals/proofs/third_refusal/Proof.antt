@@ -1,4 +1,4 @@
--- `refusing::third_refusal` meets its contract: the tests stand in the table's order.
+-- `code_refusals::third_refusal` meets its contract: the tests stand in the table's order.
 use mathlib.Core.Path.{_≡_, sym, _∙_}
 use mathlib.Core.Bool.{false, cond, _&&_, and-false}
 use mathlib.Core.Logic.{⊎-elim}

@@ -1,4 +1,4 @@
--- `refusing::unknown` meets its contract: a known kind whose unused fields are 0, or else unknown.
+-- `code_refusals::unknown` meets its contract: a known kind whose unused fields are 0, or else unknown.
 use mathlib.Core.Path.{_≡_, sym, _∙_}
 use mathlib.Core.Bool.{true, false}
 use borrow.Author.Needs.{needs}

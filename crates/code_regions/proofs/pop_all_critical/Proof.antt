@@ -1,4 +1,4 @@
--- `levels::pop_all_critical` meets its contract.
+-- `code_regions::pop_all_critical` meets its contract.
 use mathlib.Core.Path.{refl}
 use Rattle.spec_regions.specs.Regions.{popAllCritical}
 use Rattle.code_regions.proofs.pop_all_critical.Statement.{statement}

@@ -1,4 +1,4 @@
--- `levels::pop_critical` meets its contract: below 0 there is no level.
+-- `code_regions::pop_critical` meets its contract: below 0 there is no level.
 use Prim.Native.Nat.{_-_}
 use mathlib.Core.Path.{_≡_, refl}
 use native.Mathlib.Omega.{arith}

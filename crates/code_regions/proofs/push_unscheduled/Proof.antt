@@ -1,4 +1,4 @@
--- `levels::push_unscheduled` meets its contract.
+-- `code_regions::push_unscheduled` meets its contract.
 use borrow.Author.Tests.{lt-ltb, le-ltb}
 use borrow.Author.Needs.{needs}
 use Rattle.spec_regions.specs.Regions.{pushUnscheduled}

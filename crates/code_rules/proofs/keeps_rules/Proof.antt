@@ -1,4 +1,4 @@
--- `rules::keeps_rules` meets its contract: the first part that fails answers, and the last where none did.
+-- `code_rules::keeps_rules` meets its contract: the first part that fails answers, and the last where none did.
 use mathlib.Core.Path.{_≡_, _∙_}
 use mathlib.Core.Bool.{Bool, and-true}
 use mathlib.Core.List.{List, [], _∷_}

@@ -1,4 +1,4 @@
--- `rules::places_kept` meets its contract: the first test that fails answers, and the last where none did.
+-- `code_rules::places_kept` meets its contract: the first test that fails answers, and the last where none did.
 use mathlib.Core.Bool.{and-true}
 use borrow.Author.Needs.{needs}
 use Rattle.spec_rules.specs.Tests.{placesKept, inRank}

@@ -1,4 +1,4 @@
--- `rules::records::condition_kept` meets its contract, case by case.
+-- `code_rules_records::condition_kept` meets its contract, case by case.
 use native.Mathlib.Omega.{arith}
 use borrow.Author.Tests.{lt-ltb, le-ltb}
 use borrow.Author.Needs.{needs}

@@ -1,4 +1,4 @@
--- `rules::records::is_no_message` meets its contract: the first field that is not 0 answers, and the last where none did.
+-- `code_rules_records::is_no_message` meets its contract: the first field that is not 0 answers, and the last where none did.
 use mathlib.Core.Bool.{and-true}
 use native.Mathlib.Omega.{arith}
 use borrow.Author.Tests.{eq-eqb, ne-eqb}

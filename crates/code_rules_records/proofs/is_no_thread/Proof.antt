@@ -1,4 +1,4 @@
--- `rules::records::is_no_thread` meets its contract: the first field that is not 0 answers, and the last where none did.
+-- `code_rules_records::is_no_thread` meets its contract: the first field that is not 0 answers, and the last where none did.
 use mathlib.Core.Path.{_≡_}
 use mathlib.Core.Bool.{true, and-true}
 use mathlib.Core.List.{[], _∷_}

@@ -1,4 +1,4 @@
--- `rules::records::live_message_kept` meets its contract: the first test that fails answers. An owner past the records is no live thread.
+-- `code_rules_records::live_message_kept` meets its contract: the first test that fails answers. An owner past the records is no live thread.
 use mathlib.Core.Path.{_≡_}
 use mathlib.Core.Bool.{true, and-true}
 use lib.ListN.{length, getD}

@@ -1,4 +1,4 @@
--- `rules::records::live_semaphore_kept` meets its contract: the first test that fails answers, and the last is that of its period.
+-- `code_rules_records::live_semaphore_kept` meets its contract: the first test that fails answers, and the last is that of its period.
 use mathlib.Core.Bool.{and-true}
 use native.Mathlib.Omega.{arith}
 use borrow.Author.Tests.{eq-eqb, ne-eqb, lt-ltb, le-ltb, le-leb, lt-leb}

@@ -1,4 +1,4 @@
--- `rules::records::live_thread_kept` meets its contract: the first test that fails answers. Where the arms of the reply meet, it is below 64 or 255.
+-- `code_rules_records::live_thread_kept` meets its contract: the first test that fails answers. Where the arms of the reply meet, it is below 64 or 255.
 use mathlib.Core.Path.{_≡_}
 use mathlib.Core.Bool.{true, _||_, and-true, or-true}
 use mathlib.Core.List.{[], _∷_}

@@ -1,4 +1,4 @@
--- `rules::records::message_kept` meets its contract: whether it is live picks the test.
+-- `code_rules_records::message_kept` meets its contract: whether it is live picks the test.
 use borrow.Author.Needs.{needs}
 use Rattle.spec_rules.specs.Tests.{messageKept}
 use Rattle.code_rules_records.proofs.message_kept.Statement.{statement}

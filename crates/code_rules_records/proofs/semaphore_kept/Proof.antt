@@ -1,4 +1,4 @@
--- `rules::records::semaphore_kept` meets its contract: whether it is live picks the test.
+-- `code_rules_records::semaphore_kept` meets its contract: whether it is live picks the test.
 use borrow.Author.Needs.{needs}
 use Rattle.spec_rules.specs.Tests.{semaphoreKept}
 use Rattle.code_rules_records.proofs.semaphore_kept.Statement.{statement}

@@ -1,4 +1,4 @@
--- `rules::records::semaphore_waited` meets its contract: an id past the records is no live semaphore's.
+-- `code_rules_records::semaphore_waited` meets its contract: an id past the records is no live semaphore's.
 use mathlib.Core.Path.{_≡_}
 use lib.ListN.{getD, length}
 use borrow.Author.Tests.{not-true, not-false}

@@ -1,4 +1,4 @@
--- `rules::records::thread_kept` meets its contract: whether it is live picks the test.
+-- `code_rules_records::thread_kept` meets its contract: whether it is live picks the test.
 use borrow.Author.Needs.{needs}
 use Rattle.spec_rules.specs.Tests.{threadKept}
 use Rattle.code_rules_records.proofs.thread_kept.Statement.{statement}

@@ -1,4 +1,4 @@
--- `living::block` meets its contract: the runner's record is put anew.
+-- `code_threads::block` meets its contract: the runner's record is put anew.
 use borrow.Author.Needs.{needs}
 use Rattle.spec_threads.specs.Threads.{block}
 use Rattle.code_threads.proofs.block.Statement.{statement}

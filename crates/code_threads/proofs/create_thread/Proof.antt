@@ -1,4 +1,4 @@
--- `living::create_thread` meets its contract: the lowest free id gets a new record.
+-- `code_threads::create_thread` meets its contract: the lowest free id gets a new record.
 use borrow.Author.Needs.{needs}
 use Rattle.spec_threads.specs.Threads.{createThread}
 use Rattle.code_threads.proofs.create_thread.Statement.{statement}

@@ -1,4 +1,4 @@
--- `living::destroy_thread` meets its contract: its messages are freed, and it gets the record of no thread.
+-- `code_threads::destroy_thread` meets its contract: its messages are freed, and it gets the record of no thread.
 use borrow.Author.Needs.{needs}
 use Rattle.spec_threads.specs.Threads.{destroyThread}
 use Rattle.code_threads.proofs.destroy_thread.Statement.{statement}

@@ -1,4 +1,4 @@
--- `living::free_messages` meets its contract: the records are freed, and the queue keeps the others.
+-- `code_threads::free_messages` meets its contract: the records are freed, and the queue keeps the others.
 use borrow.Author.Needs.{needs}
 use Rattle.spec_threads.specs.Threads.{freeMessages}
 use Rattle.code_threads.proofs.free_messages.Statement.{statement}

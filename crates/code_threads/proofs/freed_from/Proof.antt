@@ -1,4 +1,4 @@
--- `living::freed_from` meets its contract.
+-- `code_threads::freed_from` meets its contract.
 use mathlib.Core.Path.{sym, _∙_}
 use borrow.Author.Needs.{needs}
 use Rattle.code_threads.proofs.freed_from.Statement.{statement}

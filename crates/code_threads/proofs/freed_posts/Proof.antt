@@ -1,4 +1,4 @@
--- `living::freed_posts` meets its contract: a holds those of the i places passed that t doesn't own, and k says how many they are.
+-- `code_threads::freed_posts` meets its contract: a holds those of the i places passed that t doesn't own, and k says how many they are.
 use Prim.Native.Nat.{ℕ, _+_, _≤_, _-_}
 use mathlib.Core.Path.{_≡_, refl, sym}
 use mathlib.Core.Bool.{Bool, not, cond}

@@ -1,4 +1,4 @@
--- `living::freed_records` meets its contract: the first m messages are as they will be, the others as they were.
+-- `code_threads::freed_records` meets its contract: the first m messages are as they will be, the others as they were.
 use Prim.Native.Nat.{_≤_, _-_}
 use mathlib.Core.Path.{_≡_, refl, _∙_}
 use mathlib.Core.List.{map, _++_}

@@ -1,4 +1,4 @@
--- `living::owns` meets its contract.
+-- `code_threads::owns` meets its contract.
 use borrow.Author.Tests.{not-true, not-false}
 use Rattle.code_threads.proofs.owns.Statement.{statement}
 use Rattle.code_threads.proofs.owns.Tie as tie

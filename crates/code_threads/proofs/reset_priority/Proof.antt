@@ -1,4 +1,4 @@
--- `living::reset_priority` meets its contract: the thread's record is put anew.
+-- `code_threads::reset_priority` meets its contract: the thread's record is put anew.
 use borrow.Author.Needs.{needs}
 use Rattle.spec_threads.specs.Threads.{resetPriority}
 use Rattle.code_threads.proofs.reset_priority.Statement.{statement}

@@ -1,4 +1,4 @@
--- `living::set_priority` meets its contract: the thread's record is put anew.
+-- `code_threads::set_priority` meets its contract: the thread's record is put anew.
 use borrow.Author.Needs.{needs}
 use Rattle.spec_threads.specs.Threads.{setPriority}
 use Rattle.code_threads.proofs.set_priority.Statement.{statement}

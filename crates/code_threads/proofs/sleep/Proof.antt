@@ -1,4 +1,4 @@
--- `living::sleep` meets its contract.
+-- `code_threads::sleep` meets its contract.
 use borrow.Author.Needs.{needs}
 use Rattle.spec_threads.specs.Threads.{sleep}
 use Rattle.code_threads.proofs.sleep.Statement.{statement}

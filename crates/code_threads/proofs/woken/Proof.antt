@@ -1,4 +1,4 @@
--- `living::woken` meets its contract: the thread's record is put anew.
+-- `code_threads::woken` meets its contract: the thread's record is put anew.
 use borrow.Author.Needs.{needs}
 use Rattle.code_threads.proofs.woken.Statement.{statement}
 use Rattle.code_threads.proofs.woken.Tie as tie

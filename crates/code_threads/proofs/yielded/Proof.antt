@@ -1,4 +1,4 @@
--- `living::yielded` meets its contract: the runner takes its places anew.
+-- `code_threads::yielded` meets its contract: the runner takes its places anew.
 use borrow.Author.Needs.{needs}
 use Rattle.spec_threads.specs.Threads.{yielded}
 use Rattle.code_threads.proofs.yielded.Statement.{statement}

@@ -1,4 +1,4 @@
--- `ticking::aged` meets its contract: below 0 there is no tick.
+-- `code_time::aged` meets its contract: below 0 there is no tick.
 use Prim.Native.Nat.{_-_}
 use mathlib.Core.Path.{_≡_}
 use native.Mathlib.Omega.{arith}

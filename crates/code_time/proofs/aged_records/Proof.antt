@@ -1,4 +1,4 @@
--- `ticking::aged_records` meets its contract: the first t threads are as they will be, the others as they were.
+-- `code_time::aged_records` meets its contract: the first t threads are as they will be, the others as they were.
 use Prim.Native.Nat.{_≤_, _-_}
 use mathlib.Core.Path.{_≡_, refl, _∙_}
 use mathlib.Core.List.{map, _++_}

@@ -1,4 +1,4 @@
--- `ticking::due_woken` meets its contract: of the i places passed, those with one tick left have woken. Where the arms meet, `ticks` is what the member at i has left; past the records that is 0.
+-- `code_time::due_woken` meets its contract: of the i places passed, those with one tick left have woken. Where the arms meet, `ticks` is what the member at i has left; past the records that is 0.
 use Prim.Native.Nat.{ℕ, _-_}
 use mathlib.Core.Path.{_≡_, sym, ap, _∙_}
 use mathlib.Core.Logic.{⊎-elim}

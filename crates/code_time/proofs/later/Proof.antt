@@ -1,4 +1,4 @@
--- `ticking::later` meets its contract.
+-- `code_time::later` meets its contract.
 use borrow.Author.Tests.{eq-eqb, ne-eqb}
 use borrow.Author.Needs.{needs}
 use Rattle.code_time.proofs.later.Statement.{statement}

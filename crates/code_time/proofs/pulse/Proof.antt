@@ -1,4 +1,4 @@
--- `ticking::pulse` meets its contract: the period and the ticks left decide.
+-- `code_time::pulse` meets its contract: the period and the ticks left decide.
 use Prim.Native.Nat.{_-_}
 use mathlib.Core.Path.{_≡_, sym, ap, _∙_}
 use mathlib.Core.Bool.{false}

@@ -1,11 +1,11 @@
--- `ticking::pulses` meets its contract: the first i semaphores are done.
+-- `code_time::pulses` meets its contract: the first i semaphores are done.
 use Prim.Native.Nat.{ℕ, _≤_, _-_}
 use mathlib.Core.Path.{_≡_, refl, sym, ap, _∙_}
 use native.Mathlib.Omega.{arith}
 use lib.ListN.{length, length-map}
 use borrow.Author.Needs.{needs}
 use Rattle.code_semaphores.specs.Waiting.{withWaiting, Does}
-use Rattle.code_time.proofs.Pulses.{pulse-more, pulse-skips}
+use Rattle.code_time.proofs.PulseTurns.{pulse-more, pulse-skips}
 use Rattle.spec_time.specs.Time.{pulseFrom}
 use Rattle.code_time.proofs.pulses.Statement.{statement}
 use Rattle.code_time.proofs.pulses.Tie as tie

@@ -1,4 +1,4 @@
--- `ticking::reason_at` meets its contract.
+-- `code_time::reason_at` meets its contract.
 use borrow.Author.Needs.{needs}
 use Rattle.code_time.proofs.reason_at.Statement.{statement}
 use Rattle.code_time.proofs.reason_at.Tie as tie

@@ -1,4 +1,4 @@
--- `ticking::time_passes` meets its contract: those that are due wake, then all are aged.
+-- `code_time::time_passes` meets its contract: those that are due wake, then all are aged.
 use borrow.Author.Needs.{needs}
 use Rattle.spec_time.specs.Time.{ageAll, timePasses}
 use Rattle.code_time.proofs.time_passes.Statement.{statement}

@@ -1,4 +1,4 @@
--- `ticking::time_up` meets its contract: what the thread waited for gives the reason.
+-- `code_time::time_up` meets its contract: what the thread waited for gives the reason.
 use borrow.Author.Needs.{needs}
 use Rattle.spec_time.specs.Time.{timeUp}
 use Rattle.code_time.proofs.time_up.Statement.{statement}

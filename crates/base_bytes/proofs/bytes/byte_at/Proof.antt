@@ -1,4 +1,4 @@
--- `coding::bytes::byte_at` meets its contract: past the end is the default.
+-- `base_bytes::bytes::byte_at` meets its contract: past the end is the default.
 use mathlib.Core.Path.{sym}
 use lib.ListN.{List·getD-eq-default}
 use borrow.Author.Needs.{needs}

@@ -1,4 +1,4 @@
--- `coding::bytes::number_at` meets its contract. The bytes are read from the last to the first: so far x is the number in those
+-- `base_bytes::bytes::number_at` meets its contract. The bytes are read from the last to the first: so far x is the number in those
 -- from i on.
 use Prim.Native.Nat.{_+_, _-_, _*_, _≤_, _<_, _^_, min}
 use mathlib.Core.Path.{_≡_, sym, _∙_}

@@ -1,4 +1,4 @@
--- `coding::bytes::same_bytes` meets its contract: the i bytes passed are the same, so the test of all is that of the rest.
+-- `base_bytes::bytes::same_bytes` meets its contract: the i bytes passed are the same, so the test of all is that of the rest.
 use Prim.Native.Nat.{_-_}
 use mathlib.Core.Path.{_≡_, sym, _∙_}
 use lib.ListN.{length, drop}

@@ -1,4 +1,4 @@
--- `coding::logs::append` meets its contract: the part between the two ends is what was written.
+-- `base_bytes::logs::append` meets its contract: the part between the two ends is what was written.
 use Prim.Native.Nat.{_≤_}
 use mathlib.Core.Path.{refl, sym}
 use native.Mathlib.Omega.{arith}

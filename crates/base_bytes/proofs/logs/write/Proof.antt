@@ -1,4 +1,4 @@
--- `coding::logs::write` meets its contract: both tests together are that of `room`, and with room the pen writes all.
+-- `base_bytes::logs::write` meets its contract: both tests together are that of `room`, and with room the pen writes all.
 use Prim.Native.Nat.{ℕ, _+_, _≤_, _<_}
 use mathlib.Core.Path.{_≡_, sym, ap, _∙_}
 use mathlib.Core.List.{List}

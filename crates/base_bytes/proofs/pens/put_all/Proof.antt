@@ -1,4 +1,4 @@
--- `coding::pens::put_all` meets its contract: what is still to write are the bytes from i on; the room is for n.
+-- `base_bytes::pens::put_all` meets its contract: what is still to write are the bytes from i on; the room is for n.
 use Prim.Native.Nat.{_+_, _-_, _≤_, min}
 use mathlib.Core.Path.{_≡_, sym, ap, _∙_}
 use native.Mathlib.Omega.{arith}

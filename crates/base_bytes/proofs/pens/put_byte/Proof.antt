@@ -1,4 +1,4 @@
--- `coding::pens::put_byte` meets its contract: the test is that of `put`.
+-- `base_bytes::pens::put_byte` meets its contract: the test is that of `put`.
 use borrow.Author.Needs.{needs}
 use borrow.Author.Tests.{lt-ltb, le-ltb}
 use Rattle.base_bytes.specs.Pens.{put}

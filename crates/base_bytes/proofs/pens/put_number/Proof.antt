@@ -1,4 +1,4 @@
--- `coding::pens::put_number` meets its contract: what is still to write are the k lowest bytes of y.
+-- `base_bytes::pens::put_number` meets its contract: what is still to write are the k lowest bytes of y.
 use mathlib.Core.Path.{_≡_, sym, _∙_}
 use native.Mathlib.Omega.{arith}
 use lib.ListN.{length}

@@ -1,4 +1,4 @@
--- `coding::row_bytes::field_at` meets its contract: the test is that of `flagged`.
+-- `base_rows::rows::field_at` meets its contract: the test is that of `flagged`.
 use borrow.Author.Needs.{needs}
 use borrow.Author.Tests.{eq-eqb, ne-eqb}
 use Rattle.base_rows.proofs.rows.field_at.Statement.{statement}

@@ -1,4 +1,4 @@
--- `coding::row_bytes::flag_of` meets its contract: the test is that of `flagOf`.
+-- `base_rows::rows::flag_of` meets its contract: the test is that of `flagOf`.
 use borrow.Author.Tests.{eq-eqb, ne-eqb}
 use Rattle.base_rows.proofs.rows.flag_of.Statement.{statement}
 use Rattle.base_rows.proofs.rows.flag_of.Tie as tie

@@ -1,4 +1,4 @@
--- `coding::row_bytes::flags_of` meets its contract. The fields are compared from the last to the first: so far the flags are those of the
+-- `base_rows::rows::flags_of` meets its contract. The fields are compared from the last to the first: so far the flags are those of the
 -- fields from i on.
 use Prim.Native.Nat.{_+_, _-_, _*_, _≤_, _<_}
 use mathlib.Core.Path.{_≡_, sym, _∙_}

@@ -1,4 +1,4 @@
--- `coding::row_bytes::put_body` meets its contract: what is still to write is the body of the fields from i on.
+-- `base_rows::rows::put_body` meets its contract: what is still to write is the body of the fields from i on.
 use Prim.Native.Nat.{_+_, _-_, _≤_}
 use mathlib.Core.Path.{_≡_, refl, sym, _∙_}
 use native.Mathlib.Omega.{arith}

@@ -1,4 +1,4 @@
--- `coding::row_bytes::put_field` meets its contract: the test is that of `fieldOf`.
+-- `base_rows::rows::put_field` meets its contract: the test is that of `fieldOf`.
 use borrow.Author.Needs.{needs}
 use borrow.Author.Tests.{eq-eqb, ne-eqb}
 use Rattle.base_bytes.specs.Pens.{puts}

@@ -1,4 +1,4 @@
--- `coding::row_bytes::row_at` meets its contract: the fields before i are read, and what is still to come is the row of the others. A place
+-- `base_rows::rows::row_at` meets its contract: the fields before i are read, and what is still to come is the row of the others. A place
 -- that begins within the bytes and goes on by at most eight widths fits its type.
 use Prim.Native.Nat.{_+_, _-_, _*_, _≤_}
 use mathlib.Core.Path.{_≡_, _∙_}

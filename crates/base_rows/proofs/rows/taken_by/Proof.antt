@@ -1,4 +1,4 @@
--- `coding::row_bytes::taken_by` meets its contract: the test is that of `taken`.
+-- `base_rows::rows::taken_by` meets its contract: the test is that of `taken`.
 use borrow.Author.Tests.{eq-eqb, ne-eqb}
 use Rattle.base_rows.proofs.rows.taken_by.Statement.{statement}
 use Rattle.base_rows.proofs.rows.taken_by.Tie as tie

@@ -1,4 +1,4 @@
--- `coding::row_bytes::used_by` meets its contract: what is still to count are the fields from i on.
+-- `base_rows::rows::used_by` meets its contract: what is still to count are the fields from i on.
 use Prim.Native.Nat.{_+_, _-_, _*_, _≤_}
 use mathlib.Core.Path.{_≡_}
 use native.Mathlib.Omega.{arith}

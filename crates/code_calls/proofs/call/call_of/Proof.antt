@@ -1,4 +1,4 @@
--- `calls::call_code::call_of` meets its contract: each field is the number of its bytes.
+-- `code_calls::call::call_of` meets its contract: each field is the number of its bytes.
 use borrow.Author.Needs.{needs}
 use Rattle.spec_calls.specs.Calls.{callOf}
 use Rattle.code_calls.proofs.call.call_of.Statement.{statement}

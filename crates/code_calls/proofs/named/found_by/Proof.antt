@@ -1,4 +1,4 @@
--- `calls::named::found_by` meets its contract: four kinds find something.
+-- `code_calls::named::found_by` meets its contract: four kinds find something.
 use borrow.Author.Needs.{needs}
 use borrow.Author.Tests.{ne-eqb}
 use Rattle.code_calls.specs.Named.{foundBy}

@@ -1,4 +1,4 @@
--- `calls::named::named_by` meets its contract: each kind that names a record stands in one run or has its own arm.
+-- `code_calls::named::named_by` meets its contract: each kind that names a record stands in one run or has its own arm.
 use Prim.Native.Nat.{_≤_, _<_}
 use mathlib.Core.Path.{_≡_, refl}
 use mathlib.Core.Bool.{Bool, false}

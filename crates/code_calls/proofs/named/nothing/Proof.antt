@@ -1,4 +1,4 @@
--- `calls::named::nothing` meets its contract: no record is live.
+-- `code_calls::named::nothing` meets its contract: no record is live.
 use borrow.Author.Needs.{needs}
 use Rattle.code_calls.proofs.named.nothing.Statement.{statement}
 use Rattle.code_calls.proofs.named.nothing.Tie as tie

@@ -1,4 +1,4 @@
--- `kernel::places::has_home` meets its contract: it has one unless its home is the number for none.
+-- `code_kernel::places::has_home` meets its contract: it has one unless its home is the number for none.
 use borrow.Author.Needs.{needs}
 use Rattle.code_kernel.proofs.places.has_home.Statement.{statement}
 use Rattle.code_kernel.proofs.places.has_home.Tie as tie

@@ -1,4 +1,4 @@
--- `kernel::places::home_of` meets its contract: a record that isn't live has no home, and that of a live one is its condition's.
+-- `code_kernel::places::home_of` meets its contract: a record that isn't live has no home, and that of a live one is its condition's.
 use mathlib.Core.Path.{_≡_}
 use mathlib.Core.Bool.{true}
 use borrow.Author.Needs.{needs}

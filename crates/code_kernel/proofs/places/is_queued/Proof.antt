@@ -1,4 +1,4 @@
--- `kernel::places::is_queued` meets its contract: a live message on a channel above 0.
+-- `code_kernel::places::is_queued` meets its contract: a live message on a channel above 0.
 use borrow.Author.Tests.{not-true, not-false}
 use Rattle.code_kernel.proofs.places.is_queued.Statement.{statement}
 use Rattle.code_kernel.proofs.places.is_queued.Tie as tie

@@ -1,4 +1,4 @@
--- `kernel::places::rank_of` meets its contract: a home and a priority fit the number that they make.
+-- `code_kernel::places::rank_of` meets its contract: a home and a priority fit the number that they make.
 use borrow.Author.Needs.{needs}
 use Rattle.spec_kernel.specs.Places.{rankOf}
 use Rattle.code_kernel.proofs.places.rank_of.Statement.{statement}

@@ -1,4 +1,4 @@
--- `kernel::places::stream_of` meets its contract: an owner and a channel fit the number that they make.
+-- `code_kernel::places::stream_of` meets its contract: an owner and a channel fit the number that they make.
 use borrow.Author.Needs.{needs}
 use Rattle.spec_kernel.specs.Places.{streamOf}
 use Rattle.code_kernel.proofs.places.stream_of.Statement.{statement}

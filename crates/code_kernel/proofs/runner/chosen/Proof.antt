@@ -1,4 +1,4 @@
--- `kernel::runner::chosen` meets its contract: an id past the records has the home of no thread, so it is not chosen.
+-- `code_kernel::runner::chosen` meets its contract: an id past the records has the home of no thread, so it is not chosen.
 use Prim.Native.Nat.{_≤_, _<_}
 use mathlib.Core.Path.{_≡_, sym, _∙_}
 use native.Mathlib.Omega.{arith}

@@ -1,4 +1,4 @@
--- `kernel::runner::runner_of` meets its contract: the levels add up to 0 only where both are 0.
+-- `code_kernel::runner::runner_of` meets its contract: the levels add up to 0 only where both are 0.
 use Prim.Native.Nat.{_+_, _≤_, _<_}
 use native.Mathlib.Omega.{arith}
 use borrow.Author.Needs.{needs}

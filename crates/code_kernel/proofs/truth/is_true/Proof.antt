@@ -1,4 +1,4 @@
--- `kernel::events::is_true` meets its contract: each mode is one of the two tests of a word's bits.
+-- `code_kernel::truth::is_true` meets its contract: each mode is one of the two tests of a word's bits.
 use borrow.Author.Needs.{needs}
 use Rattle.spec_kernel.specs.Truth.{isTrue}
 use Rattle.code_kernel.proofs.truth.is_true.Statement.{statement}

@@ -1,4 +1,4 @@
--- `seek::lines::is_for` meets its contract: both tests pass, or the first fails.
+-- `code_kernel_find::firsts::is_for` meets its contract: both tests pass, or the first fails.
 use borrow.Author.Needs.{needs}
 use borrow.Author.Tests.{eq-eqb, ne-eqb}
 use Rattle.code_kernel_find.proofs.firsts.is_for.Statement.{statement}

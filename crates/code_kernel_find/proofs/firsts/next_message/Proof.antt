@@ -1,4 +1,4 @@
--- `seek::lines::next_message` meets its contract: none of the i places passed is one to take. Where the arms meet, `mine` is the test of the member at i; past the records it fails.
+-- `code_kernel_find::firsts::next_message` meets its contract: none of the i places passed is one to take. Where the arms meet, `mine` is the test of the member at i; past the records it fails.
 use Prim.Native.Nat.{_-_}
 use mathlib.Core.Path.{_≡_, sym, _∙_}
 use mathlib.Core.Logic.{⊎-elim}
@@ -8,7 +8,7 @@ use lib.ListN.{length, getD}
 use borrow.Author.Needs.{needs}
 use Rattle.spec_kernel.specs.Records.{noMessage}
 use Rattle.spec_moves.proofs.Joins.{past-end}
-use Rattle.spec_kernel.specs.Channels.{nextOf}
+use Rattle.spec_kernel.specs.Channels.{firstFor}
 use Rattle.code_kernel_find.proofs.OfHomes.{Search, search-starts, keep-here, keep-skip, keep-none}
 use Rattle.spec_kernel.proofs.Streams.{isMine}
 use Rattle.code_kernel_find.proofs.firsts.next_message.Statement.{statement}
@@ -57,7 +57,7 @@ array-read-result : tie.Need-array-read-result Inv-loop μ-loop
 array-read-result c = search needs
 
 returns : tie.Need-returns Inv-loop μ-loop
-unfolding nextOf
+unfolding firstFor
 returns c =
     let a = c .before .before .before .before .before .before .args in
     let l = c .before .before .before .loop in
@@ -78,7 +78,7 @@ loop-again c =
     (sym (meets (c .before)) ∙ c .if2 .left)
 
 returns-2 : tie.Need-returns-2 Inv-loop μ-loop
-unfolding nextOf
+unfolding firstFor
 returns-2 c =
     let a = c .before .before .before .before .args in
     let l = c .before .loop in

@@ -1,4 +1,4 @@
--- `seek::free::free_thread` meets its contract: the i threads passed are live.
+-- `code_kernel_find::free::free_thread` meets its contract: the i threads passed are live.
 use Prim.Native.Nat.{_≤_, _-_}
 use native.Mathlib.Omega.{arith}
 use lib.ListN.{getD}

@@ -1,4 +1,4 @@
--- `threads::parts::placed` meets its contract: the move, on the part that threads move in.
+-- `code_moves::states::placed` meets its contract: the move, on the part that threads move in.
 use borrow.Author.Needs.{needs}
 use Rattle.code_moves.proofs.states.placed.Statement.{statement}
 use Rattle.code_moves.proofs.states.placed.Tie as tie

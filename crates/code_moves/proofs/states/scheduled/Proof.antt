@@ -1,4 +1,4 @@
--- `threads::parts::scheduled` meets its contract: the levels add up to 0 only where both are 0.
+-- `code_moves::states::scheduled` meets its contract: the levels add up to 0 only where both are 0.
 use Prim.Native.Nat.{_+_}
 use native.Mathlib.Omega.{arith}
 use borrow.Author.Tests.{eq-eqb, ne-eqb}

@@ -1,4 +1,4 @@
--- `noting::note::put_event_part` meets its contract: the part is written to a scratch array that is long enough, and then behind its length.
+-- `code_notes::note::put_event_part` meets its contract: the part is written to a scratch array that is long enough, and then behind its length.
 use mathlib.Core.Bool.{cond}
 use mathlib.Core.List.{[], _∷_}
 use lib.Dec.{eqb}

@@ -1,4 +1,4 @@
--- `noting::note::put_section` meets its contract: the length modulo 65,536 has the same two bytes.
+-- `code_notes::note::put_section` meets its contract: the length modulo 65,536 has the same two bytes.
 use Rattle.base_bytes.proofs.Writing.{puts-append}
 use Rattle.code_notes.proofs.Sizes.{two-bytes}
 use borrow.Author.Needs.{needs}

@@ -1,4 +1,4 @@
--- `noting::note::put_start` meets its contract: the record, and the part behind its length from a scratch array that is long enough.
+-- `code_notes::note::put_start` meets its contract: the record, and the part behind its length from a scratch array that is long enough.
 use Prim.Native.Nat.{_≤_}
 use mathlib.Core.Path.{_≡_, sym, _∙_}
 use native.Mathlib.Omega.{arith}

@@ -1,4 +1,4 @@
--- `writing::spans::alone` meets its contract: the test is that of the definition.
+-- `code_notes::spans::alone` meets its contract: the test is that of the definition.
 use borrow.Author.Tests.{lt-ltb, le-ltb}
 use Rattle.code_notes.proofs.spans.alone.Statement.{statement}
 use Rattle.code_notes.proofs.spans.alone.Tie as tie

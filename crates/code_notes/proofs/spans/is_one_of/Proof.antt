@@ -1,4 +1,4 @@
--- `writing::spans::is_one_of` meets its contract: the kinds passed are others, so the test of all is that of the rest.
+-- `code_notes::spans::is_one_of` meets its contract: the kinds passed are others, so the test of all is that of the rest.
 use Prim.Native.Nat.{_-_}
 use mathlib.Core.Path.{_≡_, sym, _∙_}
 use native.Mathlib.Numerals.{add-one}

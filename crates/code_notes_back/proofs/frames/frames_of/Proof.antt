@@ -1,4 +1,4 @@
--- `reading::frames::frames_of` meets its contract: the numbers are where the sections begin, one behind the other.
+-- `code_notes_back::frames::frames_of` meets its contract: the numbers are where the sections begin, one behind the other.
 use mathlib.Core.Path.{sym}
 use Rattle.code_notes_back.proofs.Framing.{frames-fit, frames-none}
 use borrow.Author.Needs.{needs}

@@ -1,4 +1,4 @@
--- `reading::frames::part_of` meets its contract: a place past the end is as good as the end.
+-- `code_notes_back::frames::part_of` meets its contract: a place past the end is as good as the end.
 use Rattle.code_notes_back.specs.Meant.{partOf}
 use Prim.Native.Nat.{_-_, min}
 use mathlib.Core.Path.{_≡_}

@@ -1,4 +1,4 @@
--- `reading::last::has_last` meets its contract, test by test.
+-- `code_notes_back::last::has_last` meets its contract, test by test.
 use borrow.Author.Tests.{le-leb, lt-leb}
 use Rattle.spec_notes.specs.Undo.{hasLast}
 use borrow.Author.Needs.{needs}

@@ -1,4 +1,4 @@
--- `reading::last::last_length` meets its contract: with fewer than two bytes used, it reads from the front, as the definition does.
+-- `code_notes_back::last::last_length` meets its contract: with fewer than two bytes used, it reads from the front, as the definition does.
 use Prim.Native.Nat.{_-_}
 use mathlib.Core.Path.{_≡_}
 use native.Mathlib.Omega.{arith}

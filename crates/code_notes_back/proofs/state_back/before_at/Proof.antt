@@ -1,4 +1,4 @@
--- `reading::state_back::before_at` meets its contract, field by field.
+-- `code_notes_back::state_back::before_at` meets its contract, field by field.
 use Rattle.code_notes_back.specs.Meant.{sectionsMeant}
 use Rattle.code_notes_back.specs.Restored.{beforeAt}
 use borrow.Author.Needs.{needs}

@@ -1,4 +1,4 @@
--- `reading::state_back::earlier` meets its contract: the tests are those of the definition.
+-- `code_notes_back::state_back::earlier` meets its contract: the tests are those of the definition.
 use borrow.Author.Tests.{ne-eqb}
 use borrow.Author.Needs.{needs}
 use Rattle.code_notes_back.proofs.state_back.earlier.Statement.{statement}

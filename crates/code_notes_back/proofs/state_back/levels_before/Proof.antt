@@ -1,4 +1,4 @@
--- `reading::state_back::levels_before` meets its contract: no width is above four, and the runner is a byte.
+-- `code_notes_back::state_back::levels_before` meets its contract: no width is above four, and the runner is a byte.
 use Prim.Native.Nat.{ℕ}
 use mathlib.Core.Path.{_≡_}
 use mathlib.Core.List.{List}

@@ -1,4 +1,4 @@
--- `reading::state_back::posts_back` meets its contract, field by field.
+-- `code_notes_back::state_back::posts_back` meets its contract, field by field.
 use mathlib.Core.Path.{ap}
 use Rattle.spec_notes.specs.Back.{Filing}
 use Rattle.code_notes_back.specs.Restored.{postsBack}

@@ -1,4 +1,4 @@
--- `reading::state_back::state_before` meets its contract: levels that aren't bytes are told before anything is put back.
+-- `code_notes_back::state_back::state_before` meets its contract: levels that aren't bytes are told before anything is put back.
 use Prim.Native.Nat.{ℕ, _≤_, _<_, _%_}
 use mathlib.Core.Path.{_≡_, sym, _∙_}
 use mathlib.Core.List.{List}

@@ -1,4 +1,4 @@
--- `reading::table_back::ends` meets its contract.
+-- `code_notes_back::table_back::ends` meets its contract.
 use borrow.Author.Tests.{eq-eqb, ne-eqb}
 use Rattle.code_notes_back.proofs.table_back.ends.Statement.{statement}
 use Rattle.code_notes_back.proofs.table_back.ends.Tie as tie

@@ -1,4 +1,4 @@
--- `reading::table_back::kept` meets its contract: a holds those of the i places passed that nobody touched, and k says how many they are.
+-- `code_notes_back::table_back::kept` meets its contract: a holds those of the i places passed that nobody touched, and k says how many they are.
 use Prim.Native.Nat.{ℕ, _-_, _≤_}
 use mathlib.Core.Path.{_≡_, refl, sym, _∙_}
 use mathlib.Core.Bool.{true, false}

@@ -1,4 +1,4 @@
--- `reading::table_back::merged` meets its contract: i places are filled, with j of those that stayed.
+-- `code_notes_back::table_back::merged` meets its contract: i places are filled, with j of those that stayed.
 use Prim.Native.Nat.{_-_, _≤_}
 use mathlib.Core.Path.{_≡_, refl, sym, _∙_}
 use mathlib.Core.List.{_++_}
@@ -49,8 +49,8 @@ returns c =
     rw (sized-items (a .q) _ (c .before .before .before .before .size .ensures))
     (store-done (l .a) (l .i) (l .inv .5) (l .inv .6) _ _ (l .i) refl (omega arith) (l .inv .7) m)
 
-next-of-requires : tie.Need-next-of-requires Inv-loop μ-loop
-next-of-requires c κs = search needs
+next-here-requires : tie.Need-next-here-requires Inv-loop μ-loop
+next-here-requires c κs = search needs
 
 array-write-a : tie.Need-array-write-a Inv-loop μ-loop
 array-write-a c = search needs
@@ -76,7 +76,7 @@ loop-again c =
       l .inv .4,
       simp length-set (l .inv .5),
       store-next (l .a) (l .i) (l .inv .5) (l .inv .6) _ (omega arith),
-      l .inv .7 ∙ rw (m, c .placed .ensures, c .before .next-of .ensures) (filled-next (l .a) (l .i) _ _ (omega arith)),
+      l .inv .7 ∙ rw (m, c .placed .ensures, c .before .next-here .ensures) (filled-next (l .a) (l .i) _ _ (omega arith)),
     )
 
 returns-2 : tie.Need-returns-2 Inv-loop μ-loop
@@ -98,7 +98,7 @@ merged-spec =
     ends-requires
     cast-t15
     returns
-    next-of-requires
+    next-here-requires
     array-write-a
     placed-requires
     add-i

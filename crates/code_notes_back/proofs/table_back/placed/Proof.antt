@@ -1,4 +1,4 @@
--- `reading::table_back::placed` meets its contract.
+-- `code_notes_back::table_back::placed` meets its contract.
 use borrow.Author.Tests.{eq-eqb, ne-eqb}
 use borrow.Author.Needs.{needs}
 use Rattle.code_notes_back.proofs.table_back.placed.Statement.{statement}

@@ -1,4 +1,4 @@
--- `reading::table_back::put_back_all` meets its contract: those that stayed, then place by place.
+-- `code_notes_back::table_back::put_back_all` meets its contract: those that stayed, then place by place.
 use mathlib.Core.Path.{_≡_, _∙_}
 use borrow.Author.Needs.{needs}
 use lib.ListN.{length}

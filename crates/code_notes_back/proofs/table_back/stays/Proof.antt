@@ -1,4 +1,4 @@
--- `reading::table_back::stays` meets its contract: past the end nobody is touched.
+-- `code_notes_back::table_back::stays` meets its contract: past the end nobody is touched.
 use Rattle.spec_moves.proofs.Joins.{past-end}
 use borrow.Author.Needs.{needs}
 use Rattle.code_notes_back.proofs.table_back.stays.Statement.{statement}

@@ -1,4 +1,4 @@
--- `writing::old_places::old_place` meets its contract: who stands in the queue has a place below its size, which is at most 64.
+-- `code_notes_entries::old_places::old_place` meets its contract: who stands in the queue has a place below its size, which is at most 64.
 use Prim.Native.Nat.{_≤_, _<_}
 use mathlib.Core.Path.{_≡_, sym, _∙_}
 use mathlib.Core.Bool.{true, false}

@@ -1,4 +1,4 @@
--- `sections::event_back::bits_before` meets its contract: the tests are those of the definition.
+-- `code_notes_events::event_back::bits_before` meets its contract: the tests are those of the definition.
 use borrow.Author.Tests.{eq-eqb, ne-eqb}
 use Rattle.spec_notes.specs.Back.{bitsBefore}
 use borrow.Author.Needs.{needs}

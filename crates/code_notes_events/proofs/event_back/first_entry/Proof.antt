@@ -1,4 +1,4 @@
--- `sections::event_back::first_entry` meets its contract: the test is that of `bitChanged`.
+-- `code_notes_events::event_back::first_entry` meets its contract: the test is that of `bitChanged`.
 use borrow.Author.Tests.{eq-eqb, ne-eqb}
 use borrow.Author.Needs.{needs}
 use Rattle.code_notes_events.proofs.event_back.first_entry.Statement.{statement}

@@ -1,4 +1,4 @@
--- `writing::event_notes::put_bits` meets its contract: a byte where they differ.
+-- `code_notes_events::event_notes::put_bits` meets its contract: a byte where they differ.
 use borrow.Author.Tests.{eq-eqb, ne-eqb}
 use borrow.Author.Tests.{eq-eqb, ne-eqb}
 use Rattle.base_bytes.specs.Pens.{puts}

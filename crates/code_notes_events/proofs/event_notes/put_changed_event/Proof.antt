@@ -1,4 +1,4 @@
--- `writing::event_notes::put_changed_event` meets its contract: an event that is the same is passed over.
+-- `code_notes_events::event_notes::put_changed_event` meets its contract: an event that is the same is passed over.
 use mathlib.Core.Path.{sym, _∙_}
 use Rattle.base_bytes.specs.Pens.{puts}
 use borrow.Author.Needs.{needs}

@@ -1,4 +1,4 @@
--- `writing::event_notes::put_event` meets its contract: the id, then what is flagged of the row.
+-- `code_notes_events::event_notes::put_event` meets its contract: the id, then what is flagged of the row.
 use Rattle.base_bytes.specs.Pens.{puts}
 use borrow.Author.Needs.{needs}
 use Rattle.code_notes_events.proofs.event_notes.put_event.Statement.{statement}
@@ -13,15 +13,15 @@ row-of-requires-2 c κs = search needs
 put-byte-requires : tie.Need-put-byte-requires
 put-byte-requires c κs = search needs
 
-put-flagged-requires : tie.Need-put-flagged-requires
-put-flagged-requires c κs = search needs
+put-fields-requires : tie.Need-put-fields-requires
+put-fields-requires c κs = search needs
 
 same-length : tie.Need-same-length
 same-length c = search needs
 
 returns : tie.Need-returns
 unfolding puts
-returns c = rw (c .before .before .put-flagged .ensures, c .before .before .before .before .before .before .before .before .put-byte .ensures, c .before .before .before .before .before .before .before .before .before .before .row-of2 .ensures, c .before .before .before .before .before .before .before .before .before .before .before .row-of .ensures)
+returns c = rw (c .before .before .put-fields .ensures, c .before .before .before .before .before .before .before .before .put-byte .ensures, c .before .before .before .before .before .before .before .before .before .before .row-of2 .ensures, c .before .before .before .before .before .before .before .before .before .before .before .row-of .ensures)
 
 pub put-event-spec : {M : Type 1} → statement M
 put-event-spec =
@@ -30,6 +30,6 @@ put-event-spec =
     row-of-requires
     row-of-requires-2
     put-byte-requires
-    put-flagged-requires
+    put-fields-requires
     same-length
     returns)

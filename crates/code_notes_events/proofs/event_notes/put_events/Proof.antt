@@ -1,4 +1,4 @@
--- `writing::event_notes::put_events` meets its contract: what is still to write are the entries from i on.
+-- `code_notes_events::event_notes::put_events` meets its contract: what is still to write are the entries from i on.
 use mathlib.Core.Bool.{not}
 use Rattle.spec_kernel.specs.Records.{noEvent}
 use Rattle.spec_notes.specs.Touched.{sameEvent}

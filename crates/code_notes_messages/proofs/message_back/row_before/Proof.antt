@@ -1,4 +1,4 @@
--- `sections::message_back::row_before` meets its contract: no width is above four, and what is read fits.
+-- `code_notes_messages::message_back::row_before` meets its contract: no width is above four, and what is read fits.
 use Prim.Native.Nat.{ℕ, _+_}
 use mathlib.Core.Path.{_≡_}
 use mathlib.Core.List.{List}

@@ -1,4 +1,4 @@
--- `sections::message_back::store` meets its contract: past the end nothing is stored.
+-- `code_notes_messages::message_back::store` meets its contract: past the end nothing is stored.
 use mathlib.Core.Path.{sym}
 use native.Mathlib.Omega.{arith}
 use lib.Seq.{set-out}

@@ -1,4 +1,4 @@
--- `writing::message_notes::put_changed_message` meets its contract: a message that is the same is passed over.
+-- `code_notes_messages::message_notes::put_changed_message` meets its contract: a message that is the same is passed over.
 use mathlib.Core.Path.{sym, _∙_}
 use Rattle.base_bytes.specs.Pens.{puts}
 use borrow.Author.Needs.{needs}

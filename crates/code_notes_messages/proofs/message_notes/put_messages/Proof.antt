@@ -1,4 +1,4 @@
--- `writing::message_notes::put_messages` meets its contract: what is still to write are the entries from i on.
+-- `code_notes_messages::message_notes::put_messages` meets its contract: what is still to write are the entries from i on.
 use mathlib.Core.Bool.{not}
 use Rattle.spec_kernel.specs.Records.{noMessage}
 use Rattle.spec_notes.specs.Touched.{sameMessage}

@@ -1,4 +1,4 @@
--- `rows::message_rows::owner_before` meets its contract: an arm for each kind that is told apart.
+-- `code_notes_messages::message_rows::owner_before` meets its contract: an arm for each kind that is told apart.
 use borrow.Author.Tests.{ne-eqb}
 use Rattle.code_notes_messages.proofs.message_rows.owner_before.Statement.{statement}
 use Rattle.code_notes_messages.proofs.message_rows.owner_before.Tie as tie

@@ -1,4 +1,4 @@
--- `rows::message_rows::predicted` meets its contract: a new message, and any other.
+-- `code_notes_messages::message_rows::predicted` meets its contract: a new message, and any other.
 use borrow.Author.Tests.{ne-eqb}
 use Rattle.spec_notes.specs.Predicted.{predictedMessage}
 use borrow.Author.Needs.{needs}

@@ -1,4 +1,4 @@
--- `rows::message_rows::same` meets its contract: nothing of the one row is flagged beside the other.
+-- `code_notes_messages::message_rows::same` meets its contract: nothing of the one row is flagged beside the other.
 use mathlib.Core.Path.{refl}
 use Rattle.spec_notes.specs.Touched.{sameMessage}
 use Rattle.code_notes_entries.proofs.Fields.{same-flags}

@@ -1,4 +1,4 @@
--- `writing::scheduler_notes::held_runner` meets its contract: the test is that of the definition.
+-- `code_notes_scheduler::scheduler_notes::held_runner` meets its contract: the test is that of the definition.
 use borrow.Author.Tests.{ne-eqb}
 use borrow.Author.Needs.{needs}
 use Rattle.code_notes_scheduler.proofs.scheduler_notes.held_runner.Statement.{statement}

@@ -1,4 +1,4 @@
--- `writing::scheduler_notes::put_scheduler` meets its contract: the row before beside the row that those after it tell.
+-- `code_notes_scheduler::scheduler_notes::put_scheduler` meets its contract: the row before beside the row that those after it tell.
 use borrow.Author.Needs.{needs}
 use Rattle.code_notes_scheduler.proofs.scheduler_notes.put_scheduler.Statement.{statement}
 use Rattle.code_notes_scheduler.proofs.scheduler_notes.put_scheduler.Tie as tie

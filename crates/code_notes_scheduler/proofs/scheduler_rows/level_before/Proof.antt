@@ -1,4 +1,4 @@
--- `rows::scheduler_rows::level_before` meets its contract: the tests are those of the definition.
+-- `code_notes_scheduler::scheduler_rows::level_before` meets its contract: the tests are those of the definition.
 use borrow.Author.Needs.{needs}
 use Rattle.code_notes_scheduler.proofs.scheduler_rows.level_before.Statement.{statement}
 use Rattle.code_notes_scheduler.proofs.scheduler_rows.level_before.Tie as tie

@@ -1,4 +1,4 @@
--- `sections::semaphore_back::younger_all` meets its contract: the first i are as they were, the others as they are.
+-- `code_notes_semaphores::semaphore_back::younger_all` meets its contract: the first i are as they were, the others as they are.
 use Prim.Native.Nat.{_≤_, _-_}
 use mathlib.Core.Path.{_≡_, refl, _∙_}
 use mathlib.Core.List.{map, _++_}

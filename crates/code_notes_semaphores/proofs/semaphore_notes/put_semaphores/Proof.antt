@@ -1,4 +1,4 @@
--- `writing::semaphore_notes::put_semaphores` meets its contract: what is still to write are the entries from i on.
+-- `code_notes_semaphores::semaphore_notes::put_semaphores` meets its contract: what is still to write are the entries from i on.
 use Rattle.spec_kernel.specs.Records.{noSemaphore}
 use Rattle.spec_notes.specs.Touched.{changedSemaphore}
 use Rattle.code_notes_semaphores.specs.SemaphoreEntries.{semaphoreEntries}

@@ -1,4 +1,4 @@
--- `rows::semaphore_rows::predicted` meets its contract: a new semaphore, and any other.
+-- `code_notes_semaphores::semaphore_rows::predicted` meets its contract: a new semaphore, and any other.
 use borrow.Author.Tests.{ne-eqb}
 use Rattle.spec_notes.specs.Predicted.{predictedSemaphore}
 use borrow.Author.Needs.{needs}

@@ -1,4 +1,4 @@
--- `rows::semaphore_rows::ticks_before` meets its contract: the tests are those of the definition.
+-- `code_notes_semaphores::semaphore_rows::ticks_before` meets its contract: the tests are those of the definition.
 use Prim.Native.Nat.{_<_}
 use native.Mathlib.Omega.{arith}
 use borrow.Author.Tests.{ne-eqb, lt-ltb, le-ltb}

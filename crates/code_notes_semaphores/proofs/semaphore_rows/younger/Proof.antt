@@ -1,4 +1,4 @@
--- `rows::semaphore_rows::younger` meets its contract: only the ticks are others.
+-- `code_notes_semaphores::semaphore_rows::younger` meets its contract: only the ticks are others.
 use Rattle.spec_notes.specs.Touched.{youngerSemaphore}
 use borrow.Author.Needs.{needs}
 use Rattle.code_notes_semaphores.proofs.semaphore_rows.younger.Statement.{statement}

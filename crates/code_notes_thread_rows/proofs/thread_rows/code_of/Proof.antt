@@ -1,4 +1,4 @@
--- `rows::thread_rows::code_of` meets its contract: the test is that of `threadCode`.
+-- `code_notes_thread_rows::thread_rows::code_of` meets its contract: the test is that of `threadCode`.
 use borrow.Author.Needs.{needs}
 use borrow.Author.Tests.{not-true, not-false}
 use Rattle.code_notes_thread_rows.proofs.thread_rows.code_of.Statement.{statement}

@@ -1,4 +1,4 @@
--- `rows::thread_rows::data_before` meets its contract: the tests are those of `predictedThread`.
+-- `code_notes_thread_rows::thread_rows::data_before` meets its contract: the tests are those of `predictedThread`.
 use mathlib.Core.Logic.{inl, inr, ⊎-elim}
 use borrow.Author.Needs.{needs}
 use borrow.Author.Tests.{le-ltb, lt-ltb, ne-eqb}

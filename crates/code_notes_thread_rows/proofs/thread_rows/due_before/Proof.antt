@@ -1,4 +1,4 @@
--- `rows::thread_rows::due_before` meets its contract: the tests are those of `predictedThread`.
+-- `code_notes_thread_rows::thread_rows::due_before` meets its contract: the tests are those of `predictedThread`.
 use borrow.Author.Tests.{eq-eqb, ne-eqb, le-ltb, lt-ltb}
 use Rattle.code_notes_thread_rows.proofs.thread_rows.due_before.Statement.{statement}
 use Rattle.code_notes_thread_rows.proofs.thread_rows.due_before.Tie as tie

@@ -1,4 +1,4 @@
--- `rows::thread_rows::from_row` meets its contract: each field as far as its width goes.
+-- `code_notes_thread_rows::thread_rows::from_row` meets its contract: each field as far as its width goes.
 use borrow.Author.Needs.{needs}
 use Rattle.spec_notes.specs.Rows.{threadFrom, threadWidths}
 use Rattle.code_notes_entries.proofs.Fields.{fitted-at}

@@ -1,4 +1,4 @@
--- `rows::thread_rows::place_before` meets its contract: each code of a thread that stood in a list has its arm.
+-- `code_notes_thread_rows::thread_rows::place_before` meets its contract: each code of a thread that stood in a list has its arm.
 use borrow.Author.Tests.{ne-eqb}
 use Rattle.code_notes_thread_rows.proofs.thread_rows.place_before.Statement.{statement}
 use Rattle.code_notes_thread_rows.proofs.thread_rows.place_before.Tie as tie

@@ -1,4 +1,4 @@
--- `rows::thread_rows::predicted` meets its contract: each field is that of `predictedThread`.
+-- `code_notes_thread_rows::thread_rows::predicted` meets its contract: each field is that of `predictedThread`.
 use borrow.Author.Needs.{needs}
 use Rattle.spec_notes.specs.Predicted.{predictedThread}
 use Rattle.code_notes_thread_rows.proofs.thread_rows.predicted.Statement.{statement}

@@ -1,4 +1,4 @@
--- `rows::thread_rows::reply_before` meets its contract: the tests are those of `predictedThread`.
+-- `code_notes_thread_rows::thread_rows::reply_before` meets its contract: the tests are those of `predictedThread`.
 use borrow.Author.Tests.{eq-eqb, ne-eqb, not-true, not-false}
 use Rattle.code_notes_thread_rows.proofs.thread_rows.reply_before.Statement.{statement}
 use Rattle.code_notes_thread_rows.proofs.thread_rows.reply_before.Tie as tie

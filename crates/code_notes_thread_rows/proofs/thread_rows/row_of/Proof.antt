@@ -1,4 +1,4 @@
--- `rows::thread_rows::row_of` meets its contract: field by field.
+-- `code_notes_thread_rows::thread_rows::row_of` meets its contract: field by field.
 use borrow.Author.Needs.{needs}
 use Rattle.code_notes_thread_rows.proofs.thread_rows.row_of.Statement.{statement}
 use Rattle.code_notes_thread_rows.proofs.thread_rows.row_of.Tie as tie

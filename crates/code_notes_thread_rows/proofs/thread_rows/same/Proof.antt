@@ -1,4 +1,4 @@
--- `rows::thread_rows::same` meets its contract: a code or a field that differs decides.
+-- `code_notes_thread_rows::thread_rows::same` meets its contract: a code or a field that differs decides.
 use Prim.Native.Nat.{ℕ}
 use mathlib.Core.Path.{_≡_, refl, sym, _∙_}
 use mathlib.Core.Bool.{false, and-true, and-false}

@@ -1,4 +1,4 @@
--- `rows::thread_rows::ticks_younger` meets its contract: the tests are those of `youngerThread`.
+-- `code_notes_thread_rows::thread_rows::ticks_younger` meets its contract: the tests are those of `youngerThread`.
 use Prim.Native.Nat.{_<_}
 use native.Mathlib.Omega.{arith}
 use borrow.Author.Needs.{needs}

@@ -1,4 +1,4 @@
--- `rows::thread_rows::wake_from` meets its contract: each code has its arm.
+-- `code_notes_thread_rows::thread_rows::wake_from` meets its contract: each code has its arm.
 use borrow.Author.Tests.{ne-eqb}
 use Rattle.spec_notes.specs.Rows.{wakeFrom}
 use Rattle.code_notes_thread_rows.proofs.thread_rows.wake_from.Statement.{statement}

@@ -1,4 +1,4 @@
--- `rows::thread_rows::was_woken` meets its contract: the test is that of `wasBlocked`.
+-- `code_notes_thread_rows::thread_rows::was_woken` meets its contract: the test is that of `wasBlocked`.
 use borrow.Author.Needs.{needs}
 use borrow.Author.Tests.{le-ltb, lt-ltb}
 use Rattle.code_notes_thread_rows.proofs.thread_rows.was_woken.Statement.{statement}

@@ -1,4 +1,4 @@
--- `rows::thread_rows::younger` meets its contract: all but the ticks stay.
+-- `code_notes_thread_rows::thread_rows::younger` meets its contract: all but the ticks stay.
 use borrow.Author.Needs.{needs}
 use Rattle.spec_notes.specs.Touched.{youngerThread}
 use Rattle.code_notes_thread_rows.proofs.thread_rows.younger.Statement.{statement}

@@ -1,4 +1,4 @@
--- `sections::marks::marked` meets its contract: past the last place `set` changes nothing.
+-- `code_notes_threads::marks::marked` meets its contract: past the last place `set` changes nothing.
 use Prim.Native.Nat.{_≤_}
 use mathlib.Core.Path.{_≡_, sym}
 use native.Mathlib.Omega.{arith}

@@ -1,4 +1,4 @@
--- `sections::thread_back::all_younger` meets its contract: the records before i are younger, and what is still to come are the others.
+-- `code_notes_threads::thread_back::all_younger` meets its contract: the records before i are younger, and what is still to come are the others.
 use Prim.Native.Nat.{_+_, _-_, _≤_}
 use mathlib.Core.Path.{_≡_, _∙_}
 use mathlib.Core.List.{_++_, map}

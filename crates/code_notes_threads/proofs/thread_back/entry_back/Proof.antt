@@ -1,4 +1,4 @@
--- `sections::thread_back::entry_back` meets its contract: id, code, flags and fields; what is read fits.
+-- `code_notes_threads::thread_back::entry_back` meets its contract: id, code, flags and fields; what is read fits.
 use Prim.Native.Nat.{_<_}
 use native.Mathlib.Omega.{arith}
 use lib.ListN.{drop}

@@ -1,4 +1,4 @@
--- `sections::thread_back::entry_size` meets its contract: the flags say how many bytes the fields take.
+-- `code_notes_threads::thread_back::entry_size` meets its contract: the flags say how many bytes the fields take.
 use mathlib.Core.Path.{_≡_, _∙_}
 use native.Mathlib.Omega.{arith}
 use borrow.Author.Needs.{needs}

@@ -1,4 +1,4 @@
--- `sections::thread_back::put_record` meets its contract: past the last thread `set` changes nothing.
+-- `code_notes_threads::thread_back::put_record` meets its contract: past the last thread `set` changes nothing.
 use Prim.Native.Nat.{_≤_}
 use mathlib.Core.Path.{_≡_, sym, _∙_}
 use native.Mathlib.Omega.{arith}

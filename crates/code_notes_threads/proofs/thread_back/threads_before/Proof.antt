@@ -1,4 +1,4 @@
--- `sections::thread_back::threads_before` meets its contract: what is still to read are the entries from p on.
+-- `code_notes_threads::thread_back::threads_before` meets its contract: what is still to read are the entries from p on.
 use Prim.Native.Nat.{_-_, _≤_, _<_}
 use mathlib.Core.Path.{_≡_, sym, _∙_}
 use native.Mathlib.Omega.{arith}

@@ -1,4 +1,4 @@
--- `writing::thread_notes::is_touched` meets its contract: the record is compared with what ageing alone explains.
+-- `code_notes_threads::thread_notes::is_touched` meets its contract: the record is compared with what ageing alone explains.
 use mathlib.Core.Path.{_≡_, sym, _∙_}
 use borrow.Author.Needs.{needs}
 use borrow.Author.Tests.{not-true, not-false}

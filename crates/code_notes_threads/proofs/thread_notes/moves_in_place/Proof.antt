@@ -1,4 +1,4 @@
--- `writing::thread_notes::moves_in_place` meets its contract: each kind that moves a thread in place has its arm.
+-- `code_notes_threads::thread_notes::moves_in_place` meets its contract: each kind that moves a thread in place has its arm.
 use mathlib.Core.Path.{sym}
 use mathlib.Core.Bool.{or-false}
 use borrow.Author.Tests.{ne-eqb}

@@ -1,4 +1,4 @@
--- `writing::thread_notes::put_thread` meets its contract: the id and the code, then the flags and what they flag.
+-- `code_notes_threads::thread_notes::put_thread` meets its contract: the id and the code, then the flags and what they flag.
 use borrow.Author.Needs.{needs}
 use Rattle.base_bytes.specs.Pens.{puts}
 use Rattle.code_notes_threads.proofs.thread_notes.put_thread.Statement.{statement}
@@ -22,8 +22,8 @@ put-byte-requires-2 c κs = search needs
 widths-requires : tie.Need-widths-requires
 widths-requires c κs = search needs
 
-put-flagged-requires : tie.Need-put-flagged-requires
-put-flagged-requires c κs = search needs
+put-fields-requires : tie.Need-put-fields-requires
+put-fields-requires c κs = search needs
 
 same-length : tie.Need-same-length
 same-length c = search needs
@@ -36,7 +36,7 @@ returns c =
     let h = g .before .before .before .before in
     let r = h .before .before .before .before in
     rw (
-      f .put-flagged .ensures,
+      f .put-fields .ensures,
       g .put-byte2 .ensures,
       h .put-byte .ensures,
       f .before .widths .ensures,
@@ -55,6 +55,6 @@ put-thread-spec =
     put-byte-requires
     put-byte-requires-2
     widths-requires
-    put-flagged-requires
+    put-fields-requires
     same-length
     returns)

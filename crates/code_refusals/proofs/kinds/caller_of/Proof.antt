@@ -1,4 +1,4 @@
--- `refusing::kinds::caller_of` meets its contract: the array is the table's first column.
+-- `code_refusals::kinds::caller_of` meets its contract: the array is the table's first column.
 use borrow.Author.Needs.{needs}
 use Rattle.code_refusals.proofs.Columns.{column-at, column-past}
 use Rattle.code_refusals.proofs.kinds.caller_of.Statement.{statement}

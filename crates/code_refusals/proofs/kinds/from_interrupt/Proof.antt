@@ -1,4 +1,4 @@
--- `refusing::kinds::from_interrupt` meets its contract: the table says who may call.
+-- `code_refusals::kinds::from_interrupt` meets its contract: the table says who may call.
 use borrow.Author.Needs.{needs}
 use Rattle.spec_calls.specs.Kinds.{fromInterrupt}
 use Rattle.code_refusals.proofs.kinds.from_interrupt.Statement.{statement}

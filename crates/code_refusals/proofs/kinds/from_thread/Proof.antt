@@ -1,4 +1,4 @@
--- `refusing::kinds::from_thread` meets its contract: the table says who may call.
+-- `code_refusals::kinds::from_thread` meets its contract: the table says who may call.
 use borrow.Author.Needs.{needs}
 use Rattle.spec_calls.specs.Kinds.{fromThread}
 use Rattle.code_refusals.proofs.kinds.from_thread.Statement.{statement}

@@ -1,4 +1,4 @@
--- `refusing::kinds::unused_are_zero` meets its contract: each field is used, or it is 0.
+-- `code_refusals::kinds::unused_are_zero` meets its contract: each field is used, or it is 0.
 use Prim.Native.Nat.{_/_, _%_}
 use mathlib.Core.Path.{_≡_}
 use mathlib.Core.Bool.{true}

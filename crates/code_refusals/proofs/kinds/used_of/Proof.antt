@@ -1,4 +1,4 @@
--- `refusing::kinds::used_of` meets its contract: the array is the table's second column.
+-- `code_refusals::kinds::used_of` meets its contract: the array is the table's second column.
 use borrow.Author.Needs.{needs}
 use Rattle.code_refusals.proofs.Columns.{column-at, column-past}
 use Rattle.code_refusals.proofs.kinds.used_of.Statement.{statement}

@@ -1,4 +1,4 @@
--- `tested::tables::in_order` meets its contract: the keys of the i places passed rise up to `low`.
+-- `code_rules::tables::in_order` meets its contract: the keys of the i places passed rise up to `low`.
 use Prim.Native.Nat.{_-_}
 use mathlib.Core.Path.{_≡_}
 use native.Mathlib.Omega.{arith}

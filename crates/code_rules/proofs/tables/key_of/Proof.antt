@@ -1,4 +1,4 @@
--- `tested::tables::key_of` meets its contract: in each arm, the key of the record that is found.
+-- `code_rules::tables::key_of` meets its contract: in each arm, the key of the record that is found.
 use mathlib.Core.Path.{ap, _∙_}
 use borrow.Author.Needs.{needs}
 use Rattle.spec_kernel.specs.declared.records.Thread.{Thread}

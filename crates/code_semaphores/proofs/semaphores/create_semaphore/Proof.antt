@@ -1,4 +1,4 @@
--- `objects::semaphores::create_semaphore` meets its contract: the lowest free id gets a new record.
+-- `code_semaphores::semaphores::create_semaphore` meets its contract: the lowest free id gets a new record.
 use borrow.Author.Needs.{needs}
 use Rattle.spec_semaphores.specs.Semaphores.{createSemaphore}
 use Rattle.code_semaphores.proofs.semaphores.create_semaphore.Statement.{statement}

@@ -1,4 +1,4 @@
--- `objects::semaphores::destroy_semaphore` meets its contract: it gets the record of no semaphore.
+-- `code_semaphores::semaphores::destroy_semaphore` meets its contract: it gets the record of no semaphore.
 use borrow.Author.Needs.{needs}
 use Rattle.spec_semaphores.specs.Semaphores.{destroySemaphore}
 use Rattle.code_semaphores.proofs.semaphores.destroy_semaphore.Statement.{statement}

@@ -1,4 +1,4 @@
--- `objects::semaphores::make_periodic` meets its contract: its record is put anew.
+-- `code_semaphores::semaphores::make_periodic` meets its contract: its record is put anew.
 use borrow.Author.Needs.{needs}
 use Rattle.spec_semaphores.specs.Semaphores.{makePeriodic}
 use Rattle.code_semaphores.proofs.semaphores.make_periodic.Statement.{statement}

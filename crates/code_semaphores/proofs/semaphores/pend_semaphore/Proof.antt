@@ -1,4 +1,4 @@
--- `objects::semaphores::pend_semaphore` meets its contract: the count decides.
+-- `code_semaphores::semaphores::pend_semaphore` meets its contract: the count decides.
 use Prim.Native.Nat.{ℕ}
 use mathlib.Core.Path.{_≡_, ap}
 use native.Mathlib.Omega.{arith}

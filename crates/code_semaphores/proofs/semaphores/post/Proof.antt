@@ -1,4 +1,4 @@
--- `objects::semaphores::post` meets its contract: 255 says that nobody waits, and any other id is the first of the queue.
+-- `code_semaphores::semaphores::post` meets its contract: 255 says that nobody waits, and any other id is the first of the queue.
 use Prim.Native.Nat.{ℕ}
 use mathlib.Core.Path.{_≡_, refl, sym, _∙_}
 use mathlib.Core.Bool.{true, false≢true}
@@ -20,11 +20,11 @@ empty : (l : List ℕ) → isEmpty l ≡ true → l ≡ []
 empty [] h = refl
 empty (x ∷ l) h = absurd (false≢true h)
 
-add-first-of-line : tie.Need-add-first-of-line
-add-first-of-line c = search needs
+add-first-at-home : tie.Need-add-first-at-home
+add-first-at-home c = search needs
 
-first-of-line-requires : tie.Need-first-of-line-requires
-first-of-line-requires c κs = search needs
+first-at-home-requires : tie.Need-first-at-home-requires
+first-at-home-requires c κs = search needs
 
 semaphore-at-requires : tie.Need-semaphore-at-requires
 semaphore-at-requires c κs = search needs
@@ -40,7 +40,7 @@ unfolding post
 returns c k =
     let s = c .before .before .before .before .before .before .before .before .before in
     let p = s .args .w .threads in
-    let f = c .before .before .before .before .first-of-line .ensures in
+    let f = c .before .before .before .before .first-at-home .ensures in
     let e : length (p .records) ≡ 32 = sym (length-map (p .records) _) ∙ s .good .0 .1 .1 .0 .1 .1 .0 .1 .0 .1 in
     let z : semaphoreQueue (withWaiting (s .args .w) k) (s .args .i) ≡ [] = empty _ (sym (first-empty (p .records) e (p .places) (omega arith)) ∙ eq-eqb _ _ (sym f ∙ c .before .before .before .if1 .taken)) in
     rw (z, c .stored .ensures, c .before .raised .ensures, c .before .before .semaphore-at .ensures)
@@ -52,15 +52,15 @@ returns-2 : tie.Need-returns-2
 unfolding post wake
 returns-2 c k =
     let p = c .before .before .before .before .before .before .before .args .w .threads in
-    let f = c .before .before .first-of-line .ensures in
+    let f = c .before .before .first-at-home .ensures in
     rw (first-head (p .records) (p .places) _ (λ z. c .before .if1 .left (f ∙ z)), c .woken .ensures, f)
 
 pub post-spec : {M : Type 1} → statement M
 post-spec =
     tie.close
     (tie.spec
-    add-first-of-line
-    first-of-line-requires
+    add-first-at-home
+    first-at-home-requires
     semaphore-at-requires
     raised-requires
     stored-requires

@@ -1,4 +1,4 @@
--- `objects::semaphores::post_semaphore` meets its contract: the post, on the part that it touches.
+-- `code_semaphores::semaphores::post_semaphore` meets its contract: the post, on the part that it touches.
 use mathlib.Core.Path.{ap, _∙_}
 use borrow.Author.Needs.{needs}
 use Rattle.code_semaphores.specs.declared.waiting.Waiting.{Waiting}

@@ -1,4 +1,4 @@
--- `objects::semaphores::raised` meets its contract.
+-- `code_semaphores::semaphores::raised` meets its contract.
 use borrow.Author.Tests.{lt-ltb, le-ltb}
 use borrow.Author.Needs.{needs}
 use Rattle.code_semaphores.proofs.semaphores.raised.Statement.{statement}

@@ -1,4 +1,4 @@
--- `objects::semaphores::remove_periodic` meets its contract: its record is put anew.
+-- `code_semaphores::semaphores::remove_periodic` meets its contract: its record is put anew.
 use borrow.Author.Needs.{needs}
 use Rattle.spec_semaphores.specs.Semaphores.{removePeriodic}
 use Rattle.code_semaphores.proofs.semaphores.remove_periodic.Statement.{statement}

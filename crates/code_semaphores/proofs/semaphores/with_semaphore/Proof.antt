@@ -1,4 +1,4 @@
--- `objects::semaphores::with_semaphore` meets its contract: past the last semaphore nothing is stored.
+-- `code_semaphores::semaphores::with_semaphore` meets its contract: past the last semaphore nothing is stored.
 use mathlib.Core.Path.{_≡_, sym, _∙_}
 use native.Mathlib.Omega.{arith}
 use lib.ListN.{length, length-map}

@@ -1,4 +1,4 @@
--- `objects::waiting::stored` meets its contract: past the last semaphore nothing is stored.
+-- `code_semaphores::waiting::stored` meets its contract: past the last semaphore nothing is stored.
 use mathlib.Core.Path.{_≡_, sym, _∙_}
 use native.Mathlib.Omega.{arith}
 use lib.ListN.{length, length-map}

@@ -1,4 +1,4 @@
--- `objects::waiting::waiting_of` meets its contract: the part is taken out.
+-- `code_semaphores::waiting::waiting_of` meets its contract: the part is taken out.
 use borrow.Author.Needs.{needs}
 use Rattle.code_semaphores.proofs.waiting.waiting_of.Statement.{statement}
 use Rattle.code_semaphores.proofs.waiting.waiting_of.Tie as tie

@@ -1,4 +1,4 @@
--- `objects::waiting::with_waiting` meets its contract: the part is put anew.
+-- `code_semaphores::waiting::with_waiting` meets its contract: the part is put anew.
 use borrow.Author.Needs.{needs}
 use Rattle.code_semaphores.proofs.waiting.with_waiting.Statement.{statement}
 use Rattle.code_semaphores.proofs.waiting.with_waiting.Tie as tie

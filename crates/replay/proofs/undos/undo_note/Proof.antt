@@ -8,7 +8,7 @@ use Rattle.spec_calls.specs.declared.call.Call.{Call}
 use Rattle.spec_calls.specs.Calls.{callOf}
 use Rattle.spec_notes.specs.Back.{Sections, stateBefore}
 use Rattle.spec_notes.specs.Frames.{nothing, sections, framesOf}
-use Rattle.spec_notes.specs.Undoes.{recordIn, levelsFit, yieldsAgain}
+use Rattle.spec_notes.specs.Undoes.{callBytes, levelsFit, yieldsAgain}
 use Rattle.code_notes_back.specs.declared.frames.Decoded.{Decoded}
 use Rattle.code_notes_back.specs.Meant.{sectionsMeant, meant}
 use Rattle.code_notes_back.specs.Restored.{backOf}
@@ -39,8 +39,8 @@ returns c =
     let e : framesOf note ≡ nothing = sym (c .before .before .before .frames-of .ensures) ∙ ap (λ (d : Decoded). meant d note) (c .before .enum-told .given .1) in
     rw (note-none (a .k) note e) (c .refused .ensures)
 
-record-in-requires : tie.Need-record-in-requires
-record-in-requires c κs = search needs
+call-bytes-requires : tie.Need-call-bytes-requires
+call-bytes-requires c κs = search needs
 
 call-of-requires : tie.Need-call-of-requires
 call-of-requires c κs = search needs
@@ -59,27 +59,27 @@ abbrev parts : tie.After-f → Sections
 parts c = sectionsMeant (c .f .given .0 .0) (note₀ c)
 
 abbrev old : tie.After-f → Kernel
-old c = stateBefore (callOf (recordIn (note₀ c))) (k₀ c) (parts c)
+old c = stateBefore (callOf (callBytes (note₀ c))) (k₀ c) (parts c)
 
 framed : (c : tie.After-f) → framesOf (note₀ c) ≡ sections (parts c)
 framed c = sym (c .before .before .frames-of .ensures) ∙ ap (λ (d : Decoded). meant d (note₀ c)) (c .f .given .1)
 
 -- the call record
-record-read : (c : tie.After-record-in) → c .record-in .result ≡ recordIn (note₀ (c .before .before))
+record-read : (c : tie.After-call-bytes) → c .call-bytes .result ≡ callBytes (note₀ (c .before .before))
 record-read c =
-    let f = c .before .before in c .record-in .ensures ∙ record-whole (note₀ f) (framed-size (k₀ f) (note₀ f) (parts f) (framed f))
+    let f = c .before .before in c .call-bytes .ensures ∙ record-whole (note₀ f) (framed-size (k₀ f) (note₀ f) (parts f) (framed f))
 
 -- what is read back, where its levels fit
 state-read : (c : tie.After-state-before) → let k = old (c .before .before .before .before) in
     (c .state-before .result .fits ≡ levelsFit k) × (levelsFit k ≡ true → c .state-before .result .kernel ≡ k)
 state-read c =
     let f = c .before .before .before .before in
-    back-parts (callOf (recordIn (note₀ f))) (k₀ f) (parts f) (c .state-before .result)
+    back-parts (callOf (callBytes (note₀ f))) (k₀ f) (parts f) (c .state-before .result)
     (c .state-before .ensures ∙ ap (λ (y : Call). backOf y (k₀ f) (parts f)) (c .before .call-of .ensures ∙ ap callOf (record-read (c .before .before))))
 
 -- and what running the call again finds
 run-again : (c : tie.After-yields-again) → let f = c .before .before .before .before .before .before .before .before in
-    (c .before .before .before .before .state-before .result .kernel ≡ old f) × (c .yields-again .result ≡ yieldsAgain (old f) (recordIn (note₀ f)) (k₀ f) (note₀ f))
+    (c .before .before .before .before .state-before .result .kernel ≡ old f) × (c .yields-again .result ≡ yieldsAgain (old f) (callBytes (note₀ f)) (k₀ f) (note₀ f))
 run-again c =
     let f = c .before .before .before .before .before .before .before .before in
     let (fits, kernel) = state-read (c .before .before .before .before) in
@@ -126,7 +126,7 @@ undo-note-spec =
     enum-told
     refused-requires
     returns
-    record-in-requires
+    call-bytes-requires
     call-of-requires
     state-before-requires
     refused-requires-2

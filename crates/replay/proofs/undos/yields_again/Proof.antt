@@ -10,7 +10,7 @@ use Rattle.spec_kernel.specs.declared.records.Kernel.{Kernel}
 use Rattle.spec_rules.specs.Tests.{keepsRules}
 use Rattle.spec_calls.specs.Calls.{callOf}
 use Rattle.spec_refusals.specs.Refusals.{numberOf}
-use Rattle.spec_answers.specs.Logs.{nextOf, noteFor}
+use Rattle.spec_answers.specs.Logs.{stateAfter, noteFor}
 use Rattle.replay.proofs.Again.{run-refused, run-accepted, run-next, note-stands, again-broken, again-refused, again-other, again-note}
 use Rattle.replay.proofs.Compared.{begins-same, other-length}
 use Rattle.replay.proofs.undos.yields_again.Statement.{statement}
@@ -51,7 +51,7 @@ same-kernel-requires c κs = search needs
 
 -- where it answers 0: it was accepted, the next state, and that the note stands in front
 ran : (c : tie.After-recorded) → c .recorded .result .answer .number ≡ 0 → let a = c .before .before .before .before .before .args in let l = c .recorded .result in
-    (numberOf (a .old) (callOf (a .bytes)) ≡ 0) × (l .kernel ≡ nextOf (a .old) (a .bytes)) × (l .used ≤ length (c .recorded .last .1 .1 .0))
+    (numberOf (a .old) (callOf (a .bytes)) ≡ 0) × (l .kernel ≡ stateAfter (a .old) (a .bytes)) × (l .used ≤ length (c .recorded .last .1 .1 .0))
     × (take (l .used) (c .recorded .last .1 .1 .0) ≡ noteFor (a .old) (a .bytes)) × (l .used ≡ length (noteFor (a .old) (a .bytes)))
 ran c z =
     let a = c .before .before .before .before .before .args in

@@ -1,4 +1,4 @@
--- `again::first_of` meets its contract.
+-- `try_entries::again::first_of` meets its contract.
 use Prim.Native.Nat.{ℕ}
 use mathlib.Core.Path.{_≡_, refl}
 use mathlib.Core.List.{List, [], _∷_}

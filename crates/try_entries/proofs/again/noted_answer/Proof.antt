@@ -1,4 +1,4 @@
--- `again::noted_answer` meets its contract.
+-- `try_entries::again::noted_answer` meets its contract.
 use borrow.Author.Needs.{needs}
 use Rattle.try_entries.proofs.again.noted_answer.Statement.{statement}
 use Rattle.try_entries.proofs.again.noted_answer.Tie as tie

@@ -1,4 +1,4 @@
--- `again::value_in` meets its contract: without sections there is no id, and else the kind says in which one it stands.
+-- `try_entries::again::value_in` meets its contract: without sections there is no id, and else the kind says in which one it stands.
 use Prim.Native.Nat.{ℕ}
 use mathlib.Core.Path.{_≡_, refl, sym, ap, _∙_}
 use mathlib.Core.Bool.{Bool, true, false, cond, _||_}

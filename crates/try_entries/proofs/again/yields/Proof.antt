@@ -1,4 +1,4 @@
--- `again::yields` meets its contract: what came back, and then the bytes of the note.
+-- `try_entries::again::yields` meets its contract: what came back, and then the bytes of the note.
 use mathlib.Core.Path.{_≡_, sym, ap, _∙_}
 use Rattle.code_rules_records.proofs.Answers.{refused, passed}
 use Rattle.try_entries.specs.Entries.{yieldsNote}
@@ -6,8 +6,8 @@ use borrow.Author.Needs.{needs}
 use Rattle.try_entries.proofs.again.yields.Statement.{statement}
 use Rattle.try_entries.proofs.again.yields.Tie as tie
 
-record-in-requires : tie.Need-record-in-requires
-record-in-requires c κs = search needs
+call-bytes-requires : tie.Need-call-bytes-requires
+call-bytes-requires c κs = search needs
 
 slice-aggregate-called : tie.Need-slice-aggregate-called
 slice-aggregate-called c = search needs
@@ -24,7 +24,7 @@ came-back-requires c κs = search needs
 returns : tie.Need-returns
 unfolding yieldsNote
 returns c =
-    rw (← c .before .before .before .before .before .before .record-in .ensures, ← c .before .before .before .before .called .ensures .0, ← c .before .before .noted-answer .ensures, refused (c .before .came-back .ensures) (c .if1 .taken))
+    rw (← c .before .before .before .before .before .before .call-bytes .ensures, ← c .before .before .before .before .called .ensures .0, ← c .before .before .noted-answer .ensures, refused (c .before .came-back .ensures) (c .if1 .taken))
 
 slice-aggregate-same-bytes : tie.Need-slice-aggregate-same-bytes
 slice-aggregate-same-bytes c = search needs
@@ -35,13 +35,13 @@ same-bytes-requires c κs = search needs
 returns-2 : tie.Need-returns-2
 unfolding yieldsNote
 returns-2 c =
-    rw (← c .before .before .before .before .before .before .before .before .record-in .ensures, ← c .before .before .before .before .before .before .called .ensures .0, ← c .before .before .before .before .noted-answer .ensures, passed (c .before .before .before .came-back .ensures) (c .before .before .if1 .left), ← c .before .before .before .before .before .before .called .ensures .1) (c .same-bytes .ensures)
+    rw (← c .before .before .before .before .before .before .before .before .call-bytes .ensures, ← c .before .before .before .before .before .before .called .ensures .0, ← c .before .before .before .before .noted-answer .ensures, passed (c .before .before .before .came-back .ensures) (c .before .before .if1 .left), ← c .before .before .before .before .before .before .called .ensures .1) (c .same-bytes .ensures)
 
 pub yields-spec : {M : Type 1} → statement M
 yields-spec =
     tie.close
     (tie.spec
-    record-in-requires
+    call-bytes-requires
     slice-aggregate-called
     called-requires
     noted-answer-requires

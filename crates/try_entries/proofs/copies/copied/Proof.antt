@@ -1,4 +1,4 @@
--- `copies::copied` meets its contract: by where the two places lie.
+-- `try_entries::copies::copied` meets its contract: by where the two places lie.
 use mathlib.Core.Path.{_≡_, ap}
 use native.Mathlib.Omega.{arith}
 use lib.ListN.{length}

@@ -1,4 +1,4 @@
--- `entries::refused` meets its contract: an append that is not empty is wrong, and else what came back decides.
+-- `try_entries::entries::refused` meets its contract: an append that is not empty is wrong, and else what came back decides.
 use mathlib.Core.Path.{sym, ap, _∙_}
 use borrow.Author.Tests.{eq-eqb, ne-eqb}
 use Rattle.try_entries.specs.Tallies.{outcome}

@@ -1,4 +1,4 @@
--- `entries::undo` meets its contract: the number decides what must have come back.
+-- `try_entries::entries::undo` meets its contract: the number decides what must have come back.
 use mathlib.Core.Path.{ap, _∙_}
 use borrow.Author.Tests.{eq-eqb, ne-eqb}
 use Rattle.try_entries.specs.Tallies.{outcome}

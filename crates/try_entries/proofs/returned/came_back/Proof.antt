@@ -1,4 +1,4 @@
--- `returned::came_back` meets its contract: the first part that differs answers, and the state where none did.
+-- `try_entries::returned::came_back` meets its contract: the first part that differs answers, and the state where none did.
 use mathlib.Core.Bool.{and-true}
 use borrow.Author.Needs.{needs}
 use borrow.Author.Tests.{eq-eqb, ne-eqb}

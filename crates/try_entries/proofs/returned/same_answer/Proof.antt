@@ -1,4 +1,4 @@
--- `returned::same_answer` meets its contract: the first number that differs answers, and the last where none did.
+-- `try_entries::returned::same_answer` meets its contract: the first number that differs answers, and the last where none did.
 use mathlib.Core.Bool.{and-true}
 use borrow.Author.Tests.{eq-eqb, ne-eqb}
 use Rattle.try_entries.specs.Returned.{sameAnswer}

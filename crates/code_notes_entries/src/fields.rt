@@ -1,17 +1,17 @@
 // Of an old row what isn't as predicted: its flags, then those fields.
 ghost use mathlib.Core.Path.{_≡_};
 ghost use Rattle.base_bytes.specs.Pens.{pen, puts};
-ghost use Rattle.spec_notes.specs.Sections.{flagged, unlessPredicted};
+ghost use Rattle.spec_notes.specs.Sections.{flagsAndFields, unlessPredicted};
 use base_bytes::pens;
 
-pub fn put_flagged(
+pub fn put_fields(
     log: &mut [u8],
     at: usize,
     widths: [u8; 8],
     old: [u32; 8],
     predicted: [u32; 8],
 ) -> usize
-    ensures { λ r. ⌜ pen (now (log .exit)) r ≡ puts (pen (now (log .entry)) at) (flagged widths old predicted) ⌝ }
+    ensures { λ r. ⌜ pen (now (log .exit)) r ≡ puts (pen (now (log .entry)) at) (flagsAndFields widths old predicted) ⌝ }
 {
     let p = pens::put_byte(log, at, base_rows::rows::flags_of(old, predicted));
     base_rows::rows::put_body(log, p, widths, old, predicted)
@@ -30,5 +30,5 @@ pub fn put_unless_predicted(
     if base_rows::rows::flags_of(old, predicted) == 0 {
         return at;
     }
-    put_flagged(log, at, widths, old, predicted)
+    put_fields(log, at, widths, old, predicted)
 }

@@ -14,11 +14,11 @@ use Rattle.proof_rules.proofs.Effects.{_▸_, end, effect-of}
 use Rattle.proof_rules.proofs.Kept.{rules-kept}
 use Rattle.spec_notes.specs.Touched.{touchedThread, touchedMessage}
 use Rattle.spec_notes.specs.Within.{Within, CallWithin}
-use Rattle.spec_notes.specs.Framed.{Framed}
-use Rattle.spec_notes.proofs.Frames.{Left, quiet, kind-2, kind-4, kind-5, kind-6, kind-7}
-use Rattle.spec_notes.proofs.FramesOfObjects.{kind-18, kind-19, kind-20, kind-21, kind-28, set-left, clear-left}
-use Rattle.spec_notes.proofs.FramesOfTime.{kind-1}
-use Rattle.spec_notes.proofs.FramesOfMessages.{kind-3, kind-24, kind-25, kind-26, kind-27}
+use Rattle.spec_notes.specs.LeftAlone.{LeftAlone}
+use Rattle.spec_notes.proofs.Stays.{Left, quiet, kind-2, kind-4, kind-5, kind-6, kind-7}
+use Rattle.spec_notes.proofs.StaysAtObjects.{kind-18, kind-19, kind-20, kind-21, kind-28, set-left, clear-left}
+use Rattle.spec_notes.proofs.StaysAtTicks.{kind-1}
+use Rattle.spec_notes.proofs.StaysAtMessages.{kind-3, kind-24, kind-25, kind-26, kind-27}
 
 -- levels, and semaphores that are created, destroyed and made periodic, leave everybody in place
 effect-left : {k : Kernel} {c : Call} → Before k → Accepted k c → Left k c (effect k c)
@@ -59,10 +59,10 @@ effect-left {k} {c} B A =
     ▸ clear-left B A refl  -- 30
     ▸ end
 
-pub framed : (k : Kernel) (c : Call) → Sized k → Rules k → Within k → CallWithin c → numberOf k c ≡ 0
-    → Framed k c (scheduled (effect k c))
+pub call-leaves : (k : Kernel) (c : Call) → Sized k → Rules k → Within k → CallWithin c → numberOf k c ≡ 0
+    → LeftAlone k c (scheduled (effect k c))
 unfolding scheduled touchedThread touchedMessage
-framed k c Z R _ _ h =
+call-leaves k c Z R _ _ h =
     let L = effect-left (before k Z R) (accepted k c h) in
     let (Z′, _) = rules-kept k c Z R h in
     record {

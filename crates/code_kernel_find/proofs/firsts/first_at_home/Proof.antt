@@ -1,4 +1,4 @@
--- `seek::lines::first_of_line` meets its contract: none of the i places passed has that home. Where the arms meet, `other` is the home of the member at i; past the records that is the home of no thread.
+-- `code_kernel_find::firsts::first_at_home` meets its contract: none of the i places passed has that home. Where the arms meet, `other` is the home of the member at i; past the records that is the home of no thread.
 use Prim.Native.Nat.{_-_}
 use mathlib.Core.Path.{_≡_, sym, ap, _∙_}
 use mathlib.Core.Logic.{⊎-elim}
@@ -9,10 +9,10 @@ use borrow.Author.Tests.{eq-eqb, ne-eqb}
 use Rattle.spec_kernel.specs.Records.{noThread}
 use Rattle.spec_kernel.specs.Places.{homeOf}
 use Rattle.spec_moves.proofs.Joins.{past-end}
-use Rattle.code_kernel_find.specs.AtHome.{firstOfLine}
+use Rattle.code_kernel_find.specs.AtHome.{firstAtHome}
 use Rattle.code_kernel_find.proofs.OfHomes.{isHome, Search, search-starts, keep-here, keep-skip, keep-none}
-use Rattle.code_kernel_find.proofs.firsts.first_of_line.Statement.{statement}
-use Rattle.code_kernel_find.proofs.firsts.first_of_line.Tie as tie
+use Rattle.code_kernel_find.proofs.firsts.first_at_home.Statement.{statement}
+use Rattle.code_kernel_find.proofs.firsts.first_at_home.Tie as tie
 
 abbrev Inv-loop : tie.InvT-loop
 Inv-loop home threads at n i₀ i = Search (isHome threads home) at n i
@@ -58,7 +58,7 @@ array-read-result : tie.Need-array-read-result Inv-loop μ-loop
 array-read-result c = search needs
 
 returns : tie.Need-returns Inv-loop μ-loop
-unfolding firstOfLine
+unfolding firstAtHome
 returns c =
     let a = c .before .before .before .before .before .before .args in
     let l = c .before .before .before .loop in
@@ -79,14 +79,14 @@ loop-again c =
     (ne-eqb _ _ (λ z. c .if2 .left (meets (c .before) ∙ z)))
 
 returns-2 : tie.Need-returns-2 Inv-loop μ-loop
-unfolding firstOfLine
+unfolding firstAtHome
 returns-2 c =
     let a = c .before .before .before .before .args in
     let l = c .before .loop in
     keep-none (isHome (a .t1) (a .home)) (a .places) _ (c .before .before .size .ensures) (l .i) (l .inv) (omega arith)
 
-pub first-of-line-spec : {M : Type 1} → statement M
-first-of-line-spec =
+pub first-at-home-spec : {M : Type 1} → statement M
+first-at-home-spec =
     tie.close
     (tie.spec
     Inv-loop

@@ -24,9 +24,9 @@ use Rattle.proof_rules.proofs.Ends.{sized, Before}
 use Rattle.proof_rules.proofs.Accepted.{Accepted}
 use Rattle.proof_rules.proofs.Wakings.{asDue, due-standing, due-woken, aged-record, passes-standing}
 use Rattle.spec_notes.specs.Back.{earlier}
-use Rattle.spec_notes.proofs.Frames.{Left, up}
-use Rattle.spec_notes.proofs.FramesOfWakings.{Wakes, none-wakes, then-wakes, wakes-stay, called-wakes, each-keeps}
-use Rattle.spec_notes.proofs.FramesOfObjects.{Woke, posted-stay, semaphore-woke, post-woke}
+use Rattle.spec_notes.proofs.Stays.{Left, up}
+use Rattle.spec_notes.proofs.StaysAtWakings.{Wakes, none-wakes, then-wakes, wakes-stay, called-wakes, each-keeps}
+use Rattle.spec_notes.proofs.StaysAtObjects.{Woke, posted-stay, semaphore-woke, post-woke}
 
 -- ---- threads
 -- all age where they stand

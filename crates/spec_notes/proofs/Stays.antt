@@ -27,7 +27,7 @@ use Rattle.spec_kernel.specs.Free.{freeThread}
 use Rattle.spec_calls.specs.declared.call.Call.{Call}
 use Rattle.spec_calls.specs.Kinds.{rowOf, fromThread}
 use Rattle.spec_refusals.specs.Refusals.{noneFree}
-use Rattle.spec_moves.specs.States.{place, file}
+use Rattle.spec_moves.specs.States.{moveThread, moveMessage}
 use Rattle.spec_threads.specs.Threads.{born, blocked, block, createThread, setPriority, resetPriority, yielded, sleep}
 use Rattle.proof_rules.proofs.Ends.{Before}
 use Rattle.proof_rules.proofs.Free.{free-id}
@@ -36,7 +36,7 @@ use Rattle.proof_rules.proofs.Steps.{ready-live, caller-ready}
 use Rattle.spec_notes.specs.Rows.{conditionCode, threadCode}
 use Rattle.spec_notes.specs.Touched.{sameThread, youngerThread, movesInPlace, touchedThread, touchedMessage}
 use Rattle.spec_notes.specs.Back.{earlier}
-use Rattle.spec_notes.specs.Framed.{otherWay}
+use Rattle.spec_notes.specs.LeftAlone.{otherWay}
 
 -- ---- what stays
 -- a test that sees nobody move
@@ -116,22 +116,22 @@ relocate-keeps p t r f h =
 
 module _ (k : Kernel) (c : Call) (t : ℕ) (r : Thread) where
   -- a thread that is touched
-  place-stays : (t < 32 → touchedThread k c (place t r k) t ≡ true) → ThreadsStay k c (place t r k)
-  place-stays h = relocate-keeps (threadsOf k) t r (λ x. not (touchedThread k c (place t r k) x)) (λ b. rw (h b))
+  place-stays : (t < 32 → touchedThread k c (moveThread t r k) t ≡ true) → ThreadsStay k c (moveThread t r k)
+  place-stays h = relocate-keeps (threadsOf k) t r (λ x. not (touchedThread k c (moveThread t r k) x)) (λ b. rw (h b))
 
-  pub code-stays : length (k .threads) ≡ 32 → (threadCode (thread k t) ≡ threadCode r → ⊥) → ThreadsStay k c (place t r k)
+  pub code-stays : length (k .threads) ≡ 32 → (threadCode (thread k t) ≡ threadCode r → ⊥) → ThreadsStay k c (moveThread t r k)
   code-stays e ne =
-      place-stays (λ b. touched-code k c (place t r k) t (λ z. ne (z ∙ ap threadCode (relocate-same (threadsOf k) t r e b))))
+      place-stays (λ b. touched-code k c (moveThread t r k) t (λ z. ne (z ∙ ap threadCode (relocate-same (threadsOf k) t r e b))))
 
-  place-in-place : movesInPlace (k .runner) c t ≡ true → ThreadsStay k c (place t r k)
-  place-in-place e = place-stays (λ _. touched-place k c (place t r k) t e)
+  place-in-place : movesInPlace (k .runner) c t ≡ true → ThreadsStay k c (moveThread t r k)
+  place-in-place e = place-stays (λ _. touched-place k c (moveThread t r k) t e)
 
 -- a message that is touched
 pub file-stays : (k : Kernel) (c : Call) (m : ℕ) (r : Message)
-    → (m < 64 → touchedMessage k c (file m r k) m ≡ true) → PostsStay k c (file m r k)
+    → (m < 64 → touchedMessage k c (moveMessage m r k) m ≡ true) → PostsStay k c (moveMessage m r k)
 file-stays k c m r h =
     cases (ltb m 64)
-    (λ e. repost-keep (postsOf k) m r (λ x. not (touchedMessage k c (file m r k) x)) (rw (h (ltb-true m 64 e))))
+    (λ e. repost-keep (postsOf k) m r (λ x. not (touchedMessage k c (moveMessage m r k) x)) (rw (h (ltb-true m 64 e))))
     (λ e. rw (repost-past (postsOf k) m r (ltb-false m 64 e)))
 
 -- ---- the kinds

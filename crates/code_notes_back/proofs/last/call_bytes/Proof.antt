@@ -1,4 +1,4 @@
--- `reading::last::record_in` meets its contract: i bytes are copied, and the others are 0.
+-- `code_notes_back::last::call_bytes` meets its contract: i bytes are copied, and the others are 0.
 use Prim.Native.Nat.{ℕ, _-_, _≤_}
 use mathlib.Core.Path.{_≡_, refl, sym, _∙_}
 use mathlib.Core.List.{List}
@@ -8,8 +8,8 @@ use lib.Seq.{take-all}
 use Rattle.code_notes_back.specs.Meant.{recordOf}
 use Rattle.code_notes_back.proofs.Framing.{record-size, record-byte, copied-next}
 use borrow.Author.Needs.{needs}
-use Rattle.code_notes_back.proofs.last.record_in.Statement.{statement}
-use Rattle.code_notes_back.proofs.last.record_in.Tie as tie
+use Rattle.code_notes_back.proofs.last.call_bytes.Statement.{statement}
+use Rattle.code_notes_back.proofs.last.call_bytes.Tie as tie
 
 abbrev Inv-loop : tie.InvT-loop
 Inv-loop note bytes₀ i₀ bytes i = (i ≤ 16) × (length bytes ≡ 16) × (take i bytes ≡ take i (recordOf note))
@@ -48,8 +48,8 @@ returns c =
     let l = c .before .loop in
     sym (take-all (l .i) (l .bytes) (omega arith)) ∙ l .inv .2 ∙ take-all (l .i) (recordOf s) (omega (arith, record-size s))
 
-pub record-in-spec : {M : Type 1} → statement M
-record-in-spec =
+pub call-bytes-spec : {M : Type 1} → statement M
+call-bytes-spec =
     tie.close
     (tie.spec
     Inv-loop

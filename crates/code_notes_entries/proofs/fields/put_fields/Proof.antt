@@ -1,8 +1,8 @@
--- `writing::flagged::put_flagged` meets its contract: the flags, then the body.
+-- `code_notes_entries::fields::put_fields` meets its contract: the flags, then the body.
 use Rattle.base_bytes.specs.Pens.{puts}
 use borrow.Author.Needs.{needs}
-use Rattle.code_notes_entries.proofs.flagged.put_flagged.Statement.{statement}
-use Rattle.code_notes_entries.proofs.flagged.put_flagged.Tie as tie
+use Rattle.code_notes_entries.proofs.fields.put_fields.Statement.{statement}
+use Rattle.code_notes_entries.proofs.fields.put_fields.Tie as tie
 
 flags-of-requires : tie.Need-flags-of-requires
 flags-of-requires c κs = search needs
@@ -20,6 +20,6 @@ returns : tie.Need-returns
 unfolding puts
 returns c = rw (c .before .before .put-body .ensures, c .before .before .before .before .before .before .put-byte .ensures, c .before .before .before .before .before .before .before .flags-of .ensures)
 
-pub put-flagged-spec : {M : Type 1} → statement M
-put-flagged-spec =
+pub put-fields-spec : {M : Type 1} → statement M
+put-fields-spec =
     tie.close (tie.spec flags-of-requires put-byte-requires put-body-requires same-length returns)

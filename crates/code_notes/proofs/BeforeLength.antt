@@ -45,7 +45,7 @@ puts-six : (p : Pen) (a b c d e f : List ℕ)
 puts-six p a b c d e f = simp puts-append
 
 -- the parts, one behind the other; of whom a call needs no waiter, any other will do
-pub front-puts : (p : Pen) (k : Kernel) (bytes : List ℕ) (k′ : Kernel) (value waiter : ℕ) → let c = callOf bytes in
+pub sections-put : (p : Pen) (k : Kernel) (bytes : List ℕ) (k′ : Kernel) (value waiter : ℕ) → let c = callOf bytes in
     threadSpan c (k .runner) value waiter ≡ threadSpan c (k .runner) value (waiterOf k c)
     → puts (puts (puts (puts (puts (puts p bytes) (section (levelsNoted c (levelsOf k) (levelsOf k′))))
     (section (threadPart c (k .runner) waiter (threadsOf k) (k′ .threads) value)))
@@ -53,7 +53,7 @@ pub front-puts : (p : Pen) (k : Kernel) (bytes : List ℕ) (k′ : Kernel) (valu
     (section (eventPart c (k .bits) (k′ .bits) (k .events) (k′ .events))))
     (section (messagePart c (k′ .runner) (postsOf k) (k′ .messages) value))
     ≡ puts p (frontIn k bytes k′ value)
-front-puts p k bytes k′ value waiter e = rw e (sym (ap (puts p) (front-parts k bytes k′ value) ∙ puts-six p bytes _ _ _ _ _))
+sections-put p k bytes k′ value waiter e = rw e (sym (ap (puts p) (front-parts k bytes k′ value) ∙ puts-six p bytes _ _ _ _ _))
 
 pub front-short : (k : Kernel) (bytes : List ℕ) (k′ : Kernel) (value : ℕ) → length bytes ≡ 16 → length (frontIn k bytes k′ value) ≤ 1927
 front-short k bytes k′ value h =
@@ -73,11 +73,11 @@ unfolding noteIn
 note-short k bytes k′ value h = rw (length-append, length-le) (omega (arith, front-short k bytes k′ value h))
 
 -- a front and its length behind it are the note: m and n from the front's writer, r and e from the number's
-pub front-closed : (l m : List ℕ) (n : ℕ) (k : Kernel) (bytes : List ℕ) (k′ : Kernel) (value : ℕ) (q : Pen) → length bytes ≡ 16 → 2048 ≤ length l
+pub note-closed : (l m : List ℕ) (n : ℕ) (k : Kernel) (bytes : List ℕ) (k′ : Kernel) (value : ℕ) (q : Pen) → length bytes ≡ 16 → 2048 ≤ length l
     → pen m n ≡ puts (pen l 0) (frontIn k bytes k′ value) → q ≡ puts (pen m n) (le 2 (min n 2048 + 2))
     → q ≡ puts (pen l 0) (noteIn k bytes k′ value)
 unfolding noteIn
-front-closed l m n k bytes k′ value q h room e f =
+note-closed l m n k bytes k′ value q h room e f =
     let front = frontIn k bytes k′ value in
     let short = front-short k bytes k′ value h in
     let (z, _) = front-written l m front n e (omega (arith, short, room)) in

@@ -32,8 +32,8 @@ use Rattle.proof_rules.proofs.Core.{live-semaphore}
 use Rattle.proof_rules.proofs.Ends.{sized, Before}
 use Rattle.proof_rules.proofs.Accepted.{Accepted, semaphore-named}
 use Rattle.spec_notes.specs.Touched.{touchedMessage}
-use Rattle.spec_notes.proofs.Frames.{PostsStay, AtMost, Left, quiet, block-left}
-use Rattle.spec_notes.proofs.FramesOfWakings.{Wakes, none-wakes, then-wakes, wakes-stay, one-wakes, outs-wake}
+use Rattle.spec_notes.proofs.Stays.{PostsStay, AtMost, Left, quiet, block-left}
+use Rattle.spec_notes.proofs.StaysAtWakings.{Wakes, none-wakes, then-wakes, wakes-stay, one-wakes, outs-wake}
 
 -- ---- from k to u threads wake, and but for semaphores nothing else happens
 pub record Woke (k u : Kernel) : Type 0 where

@@ -24,11 +24,11 @@ use Rattle.spec_kernel.specs.Conditions.{readyFor, masks, awaits}
 use Rattle.spec_moves.specs.Standing.{postsOf}
 use Rattle.spec_moves.proofs.Posts.{repost-same}
 use Rattle.spec_kernel.specs.Free.{freeMessage}
-use Rattle.spec_kernel.specs.Channels.{isFor, nextOf, nextMessage}
+use Rattle.spec_kernel.specs.Channels.{isFor, firstFor, nextMessage}
 use Rattle.spec_calls.specs.declared.call.Call.{Call}
 use Rattle.spec_calls.specs.Kinds.{rowOf, fromThread}
 use Rattle.spec_refusals.specs.Refusals.{badNumber, badId, isInChannel, notOwner, noneFree}
-use Rattle.spec_moves.specs.States.{file, asByte}
+use Rattle.spec_moves.specs.States.{moveMessage, asByte}
 use Rattle.spec_threads.specs.Threads.{awake, owns, freeMessages, destroyThread}
 use Rattle.spec_messages.specs.Messages.{createMessage, destroyMessage, handOver, postMessage, receive, pendMessage}
 use Rattle.proof_rules.proofs.Core.{live-thread}
@@ -39,7 +39,7 @@ use Rattle.proof_rules.proofs.OfDestroy.{freed-record}
 use Rattle.proof_rules.proofs.Steps.{ready-live, caller-ready}
 use Rattle.spec_notes.specs.Rows.{messageRow}
 use Rattle.spec_notes.specs.Touched.{sameRow, sameMessage, touchedThread, touchedMessage}
-use Rattle.spec_notes.proofs.Frames.{PostsStay, Left, quiet, up-code, live-code, down-code, code-stays, file-stays, block-left}
+use Rattle.spec_notes.proofs.Stays.{PostsStay, Left, quiet, up-code, live-code, down-code, code-stays, file-stays, block-left}
 
 -- ---- rows that differ at a place
 rows-differ : (l m : List ℕ) (i : ℕ) → (getD l i 0 ≡ getD m i 0 → ⊥) → sameRow l m ≡ false
@@ -101,10 +101,10 @@ module _ {k : Kernel} (B : Before k) {c : Call} (A : Accepted k c) where
       (free-stays k c (c .a)) e
 
   -- a message gets a record that differs in a field
-  file-differs : (m : ℕ) (r : Message) (i : ℕ) → (field i (message k m) ≡ field i r → ⊥) → PostsStay k c (file m r k)
+  file-differs : (m : ℕ) (r : Message) (i : ℕ) → (field i (message k m) ≡ field i r → ⊥) → PostsStay k c (moveMessage m r k)
   file-differs m r i h =
       file-stays k c m r
-      (λ b. touched-field k c (file m r k) m i (λ z. h (z ∙ ap (field i) (repost-same (postsOf k) m r (B .core .filed .count) b))))
+      (λ b. touched-field k c (moveMessage m r k) m i (λ z. h (z ∙ ap (field i) (repost-same (postsOf k) m r (B .core .filed .count) b))))
 
   pub kind-24 : c .kind ≡ 24 → Left k c (createMessage k c)
   unfolding createMessage noneFree
@@ -146,7 +146,7 @@ module _ {k : Kernel} (B : Before k) {c : Call} (A : Accepted k c) where
 
   -- the caller blocks, or takes a message off its channel
   pub kind-27 : c .kind ≡ 27 → Left k c (pendMessage k c)
-  unfolding pendMessage receive nextOf fromThread rowOf
+  unfolding pendMessage receive firstFor fromThread rowOf
   kind-27 e =
       let m = nextMessage k (c .b) in
       let mine : ℕ → Bool = λ x. isFor (k .runner) (c .b) (message k x) in

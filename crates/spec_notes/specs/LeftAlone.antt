@@ -17,7 +17,7 @@ abbrev pub otherWay : ℕ → ℕ → ℕ
 otherWay word i = cond (bitAt word i) (withoutBit word i) (withBit word i)
 
 -- k before the call, k′ after it
-pub record Framed (k : Kernel) (c : Call) (k′ : Kernel) : Type 0 where
+pub record LeftAlone (k : Kernel) (c : Call) (k′ : Kernel) : Type 0 where
   pub threadCount : length (k .threads) ≡ length (k′ .threads)
   pub semaphoreCount : length (k .semaphores) ≡ length (k′ .semaphores)
   pub eventCount : length (k .events) ≡ length (k′ .events)

@@ -22,8 +22,8 @@ use Rattle.spec_kernel.specs.Records.{thread, noThread, noEvent}
 use Rattle.spec_kernel.specs.Conditions.{readyFor}
 use Rattle.spec_kernel.specs.Places.{nowhere, homeFor, homeOf, eventHome}
 use Rattle.spec_kernel.specs.Truth.{isTrue}
-use Rattle.spec_moves.specs.Moves.{recordIn, relocate}
-use Rattle.spec_moves.specs.Standing.{threadsOf, lineIn, Standing}
+use Rattle.spec_moves.specs.Moves.{threadIn, relocate}
+use Rattle.spec_moves.specs.Standing.{threadsOf, atHomeIn, Standing}
 use Rattle.spec_moves.proofs.Joins.{past-end}
 use Rattle.spec_moves.proofs.Threads.{relocate-same, relocate-other, relocate-standing}
 use Rattle.spec_calls.specs.declared.call.Call.{Call}
@@ -32,18 +32,18 @@ use Rattle.spec_events.specs.Events.{wakeIn, wokenIn, workOut, workOutFrom}
 use Rattle.proof_rules.proofs.Core.{Core, live-waiter}
 use Rattle.proof_rules.proofs.Wakings.{woken, wakes, asMet, line-standing, line-woken}
 use Rattle.spec_notes.specs.Touched.{touchedThread}
-use Rattle.spec_notes.proofs.Frames.{Keeps, ThreadsStay, up, up-code, down-code, touched-code, relocate-keeps}
+use Rattle.spec_notes.proofs.Stays.{Keeps, ThreadsStay, up, up-code, down-code, touched-code, relocate-keeps}
 
 -- priorities are bytes
 abbrev pub Small : Threads → Type 0
-Small p = (t : ℕ) → recordIn p t .priority < 256
+Small p = (t : ℕ) → threadIn p t .priority < 256
 
 -- from p to q threads wake: who is up stays up, and only who comes up moves
 pub record Wakes (p q : Threads) : Type 0 where
   pub standing : Standing q
   pub small : Small q
-  pub still : (t : ℕ) → up (recordIn p t) ≡ true → up (recordIn q t) ≡ true
-  pub frame : (f : ℕ → Bool) → ((t : ℕ) → up (recordIn p t) ≡ false → up (recordIn q t) ≡ true → f t ≡ false) → Keeps f p q
+  pub still : (t : ℕ) → up (threadIn p t) ≡ true → up (threadIn q t) ≡ true
+  pub frame : (f : ℕ → Bool) → ((t : ℕ) → up (threadIn p t) ≡ false → up (threadIn q t) ≡ true → f t ≡ false) → Keeps f p q
 
 pub none-wakes : {p : Threads} → Standing p → Small p → Wakes p p
 none-wakes S s = record { standing = S; small = s; still = λ _ e. e; frame = λ _ _. (refl, refl) }
@@ -60,8 +60,8 @@ then-wakes {p} {q} {r} U W = record {
       (c ∙ a, d ∙ b);
 }
   where
-    down : (t : ℕ) → up (recordIn q t) ≡ false → up (recordIn p t) ≡ false
-    down t d = cases (up (recordIn p t)) (λ e. absurd (false≢true (sym d ∙ U .still t e))) (λ e. e)
+    down : (t : ℕ) → up (threadIn q t) ≡ false → up (threadIn p t) ≡ false
+    down t d = cases (up (threadIn p t)) (λ e. absurd (false≢true (sym d ∙ U .still t e))) (λ e. e)
 
 -- so in a state that keeps the rules, who isn't touched stays
 pub wakes-stay : {w : ℕ → Bool} {k : Kernel} → Core w k → (c : Call) (u : Kernel) → Wakes (threadsOf k) (threadsOf u) → ThreadsStay k c u
@@ -73,8 +73,8 @@ wakes-stay {k} C c u W =
 
 -- ---- those that are called wake: they are not up
 pub called-wakes : (why : Thread → Wake) {p q : Threads} → Small p → Standing q → (called : ℕ → Bool)
-    → ((t : ℕ) → called t ≡ true → up (recordIn p t) ≡ false)
-    → ((t : ℕ) → recordIn q t ≡ cond (called t) (woken why (recordIn p t)) (recordIn p t))
+    → ((t : ℕ) → called t ≡ true → up (threadIn p t) ≡ false)
+    → ((t : ℕ) → threadIn q t ≡ cond (called t) (woken why (threadIn p t)) (threadIn p t))
     → ((f : ℕ → Bool) → ((t : ℕ) → called t ≡ true → f t ≡ false) → Keeps f p q) → Wakes p q
 called-wakes why s S called down final keeps = record {
   standing = S;
@@ -89,7 +89,7 @@ pub each-keeps : (why : Thread → Wake) (f : ℕ → Bool) (l : List ℕ) (p : 
 each-keeps why f [] p h = (refl, refl)
 each-keeps why f (x ∷ l) p h =
     let (a, b) = each-keeps why f l (wakes why x p) (λ t m. h t (count-rest t x l m)) in
-    let (c, d) = relocate-keeps p x (woken why (recordIn p x)) f (λ _. h x (count-head x l)) in
+    let (c, d) = relocate-keeps p x (woken why (threadIn p x)) f (λ _. h x (count-head x l)) in
     (a ∙ c, b ∙ d)
 
 -- ---- a queue wakes
@@ -108,21 +108,21 @@ home-down r s a b = go (r .live) (r .condition) a b
     go true (ForMessage mask) a b = refl
 
 -- only an id has a record that isn't up
-down-low : {p : Threads} {t : ℕ} → Standing p → up (recordIn p t) ≡ false → t < 32
+down-low : {p : Threads} {t : ℕ} → Standing p → up (threadIn p t) ≡ false → t < 32
 down-low {p} {t} S d =
     cases (ltb t 32) (ltb-true t 32)
     (λ e. absurd (false≢true (sym d ∙ ap up (past-end (p .records) noThread (S .count) (ltb-false t 32 e)))))
 
 module _ {p : Threads} (S : Standing p) (s : Small p) (h : ℕ) (a : 256 ≤ h) (b : h < nowhere) where
   abbrev lives : ℕ → Bool
-  lives t = eqb (homeOf (recordIn p t)) h
+  lives t = eqb (homeOf (threadIn p t)) h
 
-  lives-down : (t : ℕ) → lives t ≡ true → up (recordIn p t) ≡ false
+  lives-down : (t : ℕ) → lives t ≡ true → up (threadIn p t) ≡ false
   lives-down t e =
-      let z = eqb-true (homeOf (recordIn p t)) h e in
-      home-down (recordIn p t) (s t) (omega arith) (omega arith)
+      let z = eqb-true (homeOf (threadIn p t)) h e in
+      home-down (threadIn p t) (s t) (omega arith) (omega arith)
 
-  member-lives : (t : ℕ) → 0 < count t (lineIn p h) → lives t ≡ true
+  member-lives : (t : ℕ) → 0 < count t (atHomeIn p h) → lives t ≡ true
   member-lives t m = kept lives (items (p .places)) m .0
 
   -- all of it
@@ -130,12 +130,12 @@ module _ {p : Threads} (S : Standing p) (s : Small p) (h : ℕ) (a : 256 ≤ h) 
   unfolding wokenIn wakeIn
   line-wakes =
       called-wakes asMet s (line-standing S h) lives lives-down (line-woken S h (λ z. omega arith))
-      (λ f g. each-keeps asMet f (lineIn p h) p (λ t m. g t (member-lives t m)))
+      (λ f g. each-keeps asMet f (atHomeIn p h) p (λ t m. g t (member-lives t m)))
 
   -- one of it
-  pub one-wakes : (t : ℕ) → 0 < count t (lineIn p h) → Wakes p (relocate t (woken asMet (recordIn p t)) p)
+  pub one-wakes : (t : ℕ) → 0 < count t (atHomeIn p h) → Wakes p (relocate t (woken asMet (threadIn p t)) p)
   one-wakes t m =
-      let r = woken asMet (recordIn p t) in
+      let r = woken asMet (threadIn p t) in
       let d = lives-down t (member-lives t m) in
       called-wakes asMet s (relocate-standing p t r S) (λ x. eqb x t) (λ x e. rw (eqb-true x t e) d)
       (λ x. cases (eqb x t) (λ e. rw (e, eqb-true x t e) (relocate-same p t r (S .count) (down-low S d)))
