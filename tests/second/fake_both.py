@@ -1,5 +1,5 @@
 #!/usr/bin/env python3
-"""fake_both.py NOTES: what both_ways would print for the records on standard input, of the log in the file NOTES.
+"""fake_both.py NOTES: what app_both_ways would print for the records on standard input, of the log in the file NOTES.
 
 Only a test of `second both` and `second notes`. The answers come from the model, the lengths from the notes; each must be the
 call's own, with sections that add up to the whole length in its last two bytes.

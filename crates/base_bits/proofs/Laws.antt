@@ -13,7 +13,7 @@ use borrow.Author.Tests.{lt-ltb, le-ltb, ltb-true, ltb-false}
 use Rattle.base_bits.specs.Words.{bitAt, withBit, withoutBit, everyBelow, someBelow, allMatch, anyMatch}
 use Rattle.base_bits.proofs.Digits.{either, below, digit, bit-low, bit-digit, bit-or}
 
--- Mask 0: all is TRUE, any is FALSE.
+-- With mask 0 every masked bit matches, and not one does [01, calls: Event 3].
 pub mask-none : (values bits : ℕ) → allMatch 0 values bits ≡ true
 unfolding allMatch everyBelow bitAt
 mask-none values bits = refl

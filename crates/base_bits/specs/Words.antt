@@ -31,10 +31,10 @@ abbrev pub sameBit : Bool → Bool → Bool
 sameBit true b = b
 sameBit false b = not b
 
--- Mode all: TRUE when every masked bit equals its value bit. (Mask 0: TRUE.)
+-- Each masked bit is as its value says; true of mask 0 [01, calls: Event 1, 3].
 unfoldable pub allMatch : ℕ → ℕ → ℕ → Bool
 allMatch mask values bits = everyBelow 32 (λ i. not (bitAt mask i) || sameBit (bitAt values i) (bitAt bits i))
 
--- Mode any: TRUE when at least one masked bit equals its value bit. (Mask 0: FALSE.)
+-- Some masked bit is as its value says; not true of mask 0 [01, calls: Event 2, 3].
 unfoldable pub anyMatch : ℕ → ℕ → ℕ → Bool
 anyMatch mask values bits = someBelow 32 (λ i. bitAt mask i && sameBit (bitAt values i) (bitAt bits i))

@@ -27,14 +27,14 @@ pub fn without_bit(word: u32, i: u8) -> u32
     }
 }
 
-// Whether every masked bit equals its value bit.
+// Whether each masked bit is as its value says.
 pub fn all_match(mask: u32, values: u32, bits: u32) -> bool
     ensures { λ r. ⌜ r ≡ allMatch mask values bits ⌝ }
 {
     (bits ^ values) & mask == 0
 }
 
-// Whether at least one masked bit equals its value bit.
+// Whether some masked bit is as its value says.
 pub fn any_match(mask: u32, values: u32, bits: u32) -> bool
     ensures { λ r. ⌜ r ≡ anyMatch mask values bits ⌝ }
 {

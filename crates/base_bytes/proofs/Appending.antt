@@ -20,10 +20,6 @@ module _ (log : List ℕ) (used : ℕ) (note : List ℕ) where
     unfolding ends
     ends-room = rw (le-leb (used + length note) (length log) h)
 
-    pub shown-room : shown log used note ≡ note
-    unfolding shown
-    shown-room = rw (le-leb (used + length note) (length log) h)
-
   -- Without, nothing is written.
   module _ (h : length log < used + length note) where
     pub noted-none : noted log used note ≡ log
@@ -33,10 +29,6 @@ module _ (log : List ℕ) (used : ℕ) (note : List ℕ) where
     pub ends-none : ends log used note ≡ used
     unfolding ends
     ends-none = rw (lt-leb (used + length note) (length log) h)
-
-    pub shown-none : shown log used note ≡ []
-    unfolding shown
-    shown-none = rw (lt-leb (used + length note) (length log) h)
 
   -- What holds with room and without holds.
   either : (P : List ℕ → ℕ → List ℕ → Type 0)
@@ -67,10 +59,6 @@ module _ (log : List ℕ) (used : ℕ) (note : List ℕ) where
           let e : length (take used log) ≡ used = length-take-le used log (omega arith) in
           rw (← drop-drop (length note) used (withNote log used note), drop-at (take used log) (note ++ drop (used + length note) log) used e)
           (drop-at note (drop (used + length note) log) (length note) refl)
-
-  -- The used part stays within the log.
-  pub ends-within : used ≤ length log → ends log used note ≤ length log
-  ends-within h = either (λ _ e _. e ≤ length log) (λ r. r) (λ _. h)
 
   -- What was written stands between the two ends.
   pub shown-between : take (ends log used note - used) (drop used (noted log used note)) ≡ shown log used note

@@ -44,19 +44,3 @@ un-small zero s h = omega arith
 un-small (suc w) s h =
     let p : 256 ^ suc w ≡ 256 ^ w * 256 = pow-suc 256 w in
     omega (arith, h 0, un-small w (drop 1 s) (λ i. rw getD-drop (h (1 + i))))
-
--- Bytes stand where they were written, and where they stand, they are what is there.
-pub begins-itself : (s r : List ℕ) → begins s (s ++ r) ≡ true
-unfolding begins
-begins-itself [] r = refl
-begins-itself (b ∷ s) r = rw (eq-eqb b b refl) (begins-itself s r)
-
-pub begins-taken : (s l : List ℕ) → begins s l ≡ true → take (length s) l ≡ s
-unfolding begins
-begins-taken [] l e = refl
-begins-taken (b ∷ s) [] e = absurd (false≢true e)
-begins-taken (b ∷ s) (x ∷ l) e = go (eqb x b) refl e (begins-taken s l)
-  where
-    go : (t : Bool) → eqb x b ≡ t → (t && begins s l) ≡ true → (begins s l ≡ true → take (length s) l ≡ s) → x ∷ take (length s) l ≡ b ∷ s
-    go true q f r = rw (eqb-true x b q, r f)
-    go false q f r = absurd (false≢true f)

@@ -29,22 +29,6 @@ length-puts p (b ∷ bytes) = length-puts (put p b) bytes ∙ go (ltb (p .at) (l
     go true = length-set (p .log) (p .at) b
     go false = refl
 
--- A place within the log stays within it.
-pub puts-within : (p : Pen) (bytes : List ℕ) → p .at ≤ length (p .log) → puts p bytes .at ≤ length (p .log)
-unfolding puts put
-puts-within p [] h = h
-puts-within p (b ∷ bytes) h = go (ltb (p .at) (length (p .log))) refl (puts-within (put p b) bytes)
-  where
-    next : Bool → Pen
-    next t = cond t (pen (set (p .log) (p .at) b) (p .at + 1)) p
-
-    go : (t : Bool) → ltb (p .at) (length (p .log)) ≡ t
-        → (next t .at ≤ length (next t .log) → puts (next t) bytes .at ≤ length (next t .log)) → puts (next t) bytes .at ≤ length (p .log)
-    go true e r =
-        let l : p .at + 1 ≤ length (p .log) = omega (arith, ltb-true (p .at) (length (p .log)) e) in
-        rw length-set at (r (rw length-set l))
-    go false e r = r h
-
 -- A full log takes nothing.
 pub puts-full : (l : List ℕ) (k : ℕ) (bytes : List ℕ) → length l ≤ k → puts (pen l k) bytes ≡ pen l k
 unfolding puts put

@@ -1,9 +1,6 @@
 // A note behind the used part of a lent log: written whole, or not at all.
 ghost use mathlib.Core.Path.{_≡_};
-ghost use Prim.Native.Nat.{_+_, _<_};
-ghost use lib.ListN.{length};
-ghost use denote.Ref.{ptr};
-ghost use Rattle.base_bytes.specs.Logs.{noted, ends, shown};
+ghost use Rattle.base_bytes.specs.Logs.{noted, ends};
 use crate::pens::put_all;
 
 // The note written behind the first `used` bytes, and where it ends; where it does not fit, nothing.
@@ -17,16 +14,4 @@ pub fn write(log: &mut [u8], used: usize, note: &[u8]) -> usize
         return used;
     }
     put_all(log, used, note)
-}
-
-// The same, and the part of the log that was written: it begins at `used`. Where the note does not fit, an empty part.
-pub fn append<'a>(log: &'a mut [u8], used: usize, note: &[u8]) -> &'a mut [u8]
-    ensures { λ r. ⌜ now r ≡ shown (now (log .entry)) used (now (note .entry)) ⌝ }
-    ensures { λ r. ⌜ (0 < length (now r) → ptr r ≡ (ptr (log .entry) .0, used + ptr (log .entry) .1)) ⌝ }
-{
-    let end = write(log, used, note);
-    if end <= used {
-        return &mut log[0..0];
-    }
-    &mut log[used..end]
 }

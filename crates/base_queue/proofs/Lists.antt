@@ -11,7 +11,7 @@ use lib.Dec.{eqb, ltb, leb·suc-suc}
 use lib.ListN.{length, take, drop, getD, replicate, length-append, length-take, length-drop, length-replicate, getD-replicate, drop-of-length-le}
 use lib.Seq.{take-suc, drop-cons, getD-take, take-at, getD-at, take-all, length-take-le, ext-getD}
 use borrow.Author.Tests.{eq-eqb, ne-eqb, lt-ltb, eqb-true}
-use Rattle.base_queue.specs.Lists.{keep, everyFrom, count, placeOf, has, withoutAt, withAt, allZero}
+use Rattle.base_queue.specs.Lists.{keep, everyFrom, count, placeOf, has, withAt, allZero}
 
 pub and-both : (a b : Bool) → (a && b) ≡ true → (a ≡ true) × (b ≡ true)
 and-both true b e = (refl, e)
@@ -47,14 +47,6 @@ module _ {A : Type 0} where
 
     pub keep-next : (d : A) (l : List A) (k : ℕ) → k < length l → keep f (take (k + 1) l) ≡ keep f (take k l) ++ cond (f (getD l k d)) (getD l k d ∷ []) []
     keep-next d l k h = rw (add-one, take-suc l k d h, keep-append)
-
-    pub length-keep : (l : List A) → length (keep f l) ≤ length l
-    length-keep [] = omega arith
-    length-keep (x ∷ l) = go (f x) (length-keep l)
-      where
-        go : (b : Bool) → length (keep f l) ≤ length l → length (cond b (x ∷ keep f l) (keep f l)) ≤ suc (length l)
-        go true h = omega arith
-        go false h = omega arith
 
   module _ (f : ℕ → A → Bool) (d : A) where
     -- a test of every member says so of each
@@ -136,22 +128,6 @@ module _ (x : ℕ) where
 
   pub length-withAt : (i : ℕ) (l : List ℕ) → length (withAt i x l) ≡ length l + 1
   length-withAt i l = simp (length-append, length-take, length-drop) (omega arith)
-
--- a member is taken out: those after it; past the end, nobody goes
-pub withoutAt-after : (i k : ℕ) (l : List ℕ) → i ≤ k → getD (withoutAt i l) k 0 ≡ getD l (suc k) 0
-withoutAt-after zero k [] h = refl
-withoutAt-after zero k (x ∷ l) h = refl
-withoutAt-after (suc i) k [] h = refl
-withoutAt-after (suc i) zero (x ∷ l) h = absurd (omega arith)
-withoutAt-after (suc i) (suc k) (x ∷ l) h = withoutAt-after i k l (omega arith)
-
-pub withoutAt-past : (i : ℕ) (l : List ℕ) → length l ≤ i → withoutAt i l ≡ l
-withoutAt-past i l h =
-    let e : length l ≤ suc i = omega arith in
-    rw (take-all i l h, drop-of-length-le l e, append-nil)
-
-pub length-withoutAt : (i : ℕ) (l : List ℕ) → i < length l → length (withoutAt i l) ≡ length l - 1
-length-withoutAt i l h = simp (length-append, length-take, length-drop) (omega arith)
 
 pub zeros-means : (l : List ℕ) → allZero l ≡ true → l ≡ replicate (length l) 0
 zeros-means l e =

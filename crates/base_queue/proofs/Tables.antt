@@ -10,7 +10,7 @@ use lib.Dec.{eqb, ltb}
 use borrow.Author.Tests.{eqb-true, eqb-false, eq-eqb, ne-eqb, ltb-true, ltb-false}
 use borrow.Table.Steps.{cases}
 use Rattle.base_queue.specs.Lists.{everyFrom, keep, isNot, without, count, has, placeOf, withAt, below, Ordered}
-use Rattle.base_queue.specs.Tables.{one, Placed, isPlaced, moved, oldPlace, putBack}
+use Rattle.base_queue.specs.Tables.{one, Placed, isPlaced, moved}
 use Rattle.base_queue.proofs.Counts.{same, placeOf-there, below-count, count-below, pigeon}
 use Rattle.base_queue.proofs.Counts.{count-without-same, count-without-other, not-without, without-absent, length-without, keep-past}
 use Rattle.base_queue.proofs.Counts.{count-behind-same, count-behind-other, length-behind, keep-behind-past}
@@ -59,24 +59,6 @@ module _ {A : Type 0} (belongs : A → Bool) (records : List A) (d : A) (out : b
       rw (count-below (length records) l (λ x h. P x ∙ ap one (member-past x h)))
       (every-intro stands d 0 records (λ x _. rw zero-add (eq-eqb (count x l) (one (member x)) (P x))))
 
--- ---- the way back
--- one that stood there once is back, put at its old place
-pub withAt-placeOf : (x : ℕ) (l : List ℕ) → count x l ≡ 1 → withAt (placeOf x l) x (without x l) ≡ l
-withAt-placeOf x [] h = absurd (omega arith)
-withAt-placeOf x (y ∷ l) h =
-    cases (eqb y x)
-    (λ e. rw (e, without-absent x l (omega (arith, rw e at h)), eqb-true y x e))
-    (λ e. rw (e, withAt-placeOf x l (rw e at h)))
-
--- x at its old place among the others in their old order: the table is as it was
-pub back-again : (x : ℕ) (l m : List ℕ) → without x m ≡ without x l → count x l ≤ 1 → length l ≤ 64 → putBack (oldPlace x l) x m ≡ l
-unfolding putBack
-back-again x l m w c s =
-    cases (has x l)
-    (λ e. rw (w, e, ne-eqb (placeOf x l) 255 (λ z. omega (arith, placeOf-there x l (ltb-true 0 (count x l) e) .0)))
-    (withAt-placeOf x l (omega (arith, ltb-true))))
-    (λ e. rw (w, e) (without-absent x l (omega (arith, ltb-false))))
-
 -- ---- x moves
 module _ (stays : Bool) (after : ℕ → Bool) (x : ℕ) (l : List ℕ) where
   -- then x stands there once, if it stays
@@ -113,12 +95,3 @@ module _ (stays : Bool) (after : ℕ → Bool) (x : ℕ) (l : List ℕ) where
   -- everybody else's order is as it was
   pub order-kept : without x (moved stays after x l) ≡ without x l
   order-kept = keep-moved (isNot x) (rw same)
-
-  -- and x can be taken back to its old place
-  pub moved-back : count x l ≤ 1 → length l ≤ 64 → putBack (oldPlace x l) x (moved stays after x l) ≡ l
-  moved-back c s = back-again x l (moved stays after x l) order-kept c s
-
-  -- there is at most one more
-  pub moved-length : length (moved stays after x l) ≤ suc (length l)
-  unfolding moved
-  moved-length = let r = length-without x l in cases stays (λ e. rw (e, length-behind) (omega arith)) (λ e. rw e (omega arith))

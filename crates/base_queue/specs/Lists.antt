@@ -47,10 +47,6 @@ abbrev pub isEmpty : List ℕ → Bool
 isEmpty [] = true
 isEmpty (x ∷ l) = false
 
--- l without the member at place i
-abbrev pub withoutAt : ℕ → List ℕ → List ℕ
-withoutAt i l = take i l ++ drop (suc i) l
-
 -- l with x at place i; past the end, last
 abbrev pub withAt : ℕ → ℕ → List ℕ → List ℕ
 withAt i x l = take i l ++ x ∷ drop i l

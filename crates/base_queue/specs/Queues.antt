@@ -28,7 +28,7 @@ front k at = pad (take k at)
 unfoldable pub roomFor : ℕ → ℕ → List ℕ → List ℕ
 roomFor i x l = cond (ltb (length l) 64) (withAt i x l) l
 
--- "Unused store of every queue is 0", with a length of at most 64
+-- At most 64 places are used, and the store behind them is 0 [01, state 1.5].
 unfoldable pub isTidy : Queue → Bool
 isTidy q = leb (q .n) 64 && allZero (drop (q .n) (q .at))
 

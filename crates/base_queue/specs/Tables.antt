@@ -37,7 +37,3 @@ placeBehind after (y ∷ l) = let r = placeBehind after l in cond (after y) 0 (s
 -- the place of x, or 255 where it has none
 abbrev pub oldPlace : ℕ → List ℕ → ℕ
 oldPlace x l = cond (has x l) (placeOf x l) 255
-
--- x is back at the place i that it had, or gone where it had none
-unfoldable pub putBack : ℕ → ℕ → List ℕ → List ℕ
-putBack i x l = let m = without x l in cond (eqb i 255) m (withAt i x m)

@@ -2,7 +2,7 @@
 ghost use mathlib.Core.Path.{_≡_};
 ghost use mathlib.Core.List.{[]};
 ghost use lib.ListN.{length};
-ghost use Rattle.base_queue.specs.Lists.{without, withoutAt, placeOf, count, has, firstOf, below};
+ghost use Rattle.base_queue.specs.Lists.{without, placeOf, count, firstOf, below};
 ghost use Rattle.base_queue.specs.Queues.{items, pack, front, roomFor, isTidy};
 
 pub struct Queue {
@@ -68,14 +68,6 @@ pub fn count(q: Queue, x: u8) -> usize
     c
 }
 
-// Whether x stands in it.
-pub fn contains(q: Queue, x: u8) -> bool
-    ensures { λ r. ⌜ r ≡ has x (items q) ⌝ }
-{
-    let i = place_of(q, x);
-    i < size(q)
-}
-
 // Without x.
 pub fn without(q: Queue, x: u8) -> Queue
     ensures { λ r. ⌜ r ≡ pack (without x (items q)) ⌝ }
@@ -110,31 +102,6 @@ fn fronted(at: [u8; 64], k: usize) -> [u8; 64]
         i += 1;
     }
     a
-}
-
-// Without the member at place i; past the end, nobody goes.
-pub fn without_at(q: Queue, i: usize) -> Queue
-    ensures { λ r. ⌜ r ≡ pack (withoutAt i (items q)) ⌝ }
-{
-    let at = q.at;
-    let n = size(q);
-    if n <= i {
-        let all = fronted(at, n);
-        return Queue {
-            n: n as u8,
-            at: all,
-        };
-    }
-    let mut a = fronted(at, i);
-    let mut k = i + 1;
-    while k < n {
-        a[k - 1] = at[k];
-        k += 1;
-    }
-    Queue {
-        n: (n - 1) as u8,
-        at: a,
-    }
 }
 
 // With x at place i, before the member there; past the end, last. A full queue stays.

@@ -12,7 +12,7 @@ use lib.Seq.{drop-at}
 use borrow.Author.Tests.{eqb-true}
 use Rattle.base_bytes.specs.Bytes.{le, un, Small}
 use Rattle.base_rows.specs.Rows.{flagOf, fieldOf, flagsOf, bodyOf, firstFlagged, rowFrom, usedBy, cut, sum, Fit}
-use Rattle.base_bytes.proofs.Numbers.{length-le, un-le, le-small, small-append}
+use Rattle.base_bytes.proofs.Numbers.{length-le, un-le}
 
 -- The first field is flagged where it is not as predicted, and behind its flag are the others'.
 flags-first : (o p f : ℕ) → (firstFlagged (flagOf o p + 2 * f) ≡ not (eqb o p)) × ((flagOf o p + 2 * f) / 2 ≡ f)
@@ -22,15 +22,8 @@ flags-first o p f = go (eqb o p)
     go true = let e : (0 + 2 * f) % 2 ≡ 0 = omega arith in (rw e, omega arith)
     go false = let e : (1 + 2 * f) % 2 ≡ 1 = omega arith in (rw e, omega arith)
 
--- One field: it is small, short, as long as its flag says, and reads back.
+-- One field: it is short, as long as its flag says, and reads back.
 module _ (w o p : ℕ) where
-  field-small : Small (fieldOf w o p)
-  field-small = go (eqb o p)
-    where
-      go : (b : Bool) → Small (cond b [] (le w o))
-      go true = tt
-      go false = le-small w o
-
   field-used : length (fieldOf w o p) ≡ cond (not (eqb o p)) w 0
   field-used = go (eqb o p)
     where
@@ -63,14 +56,6 @@ flags-small (suc k) (o ∷ os) (p ∷ ps) l = go (eqb o p) (flags-small k os ps 
     go : (b : Bool) → flagsOf os ps < 2 ^ k → cond b 0 1 + 2 * flagsOf os ps < 2 ^ suc k
     go true h = rw (pow-suc 2 k) (omega arith)
     go false h = rw (pow-suc 2 k) (omega arith)
-
--- A body is made of bytes.
-pub body-small : (ws os ps : List ℕ) → Small (bodyOf ws os ps)
-unfolding bodyOf
-body-small [] os ps = tt
-body-small (w ∷ ws) [] ps = tt
-body-small (w ∷ ws) (o ∷ os) [] = tt
-body-small (w ∷ ws) (o ∷ os) (p ∷ ps) = small-append (fieldOf w o p) (bodyOf ws os ps) (field-small w o p) (body-small ws os ps)
 
 -- It is no longer than the widths together.
 pub body-short : (ws os ps : List ℕ) → length (bodyOf ws os ps) ≤ sum ws
@@ -109,11 +94,3 @@ row-back (w ∷ ws) (o ∷ os) (p ∷ ps) rest (h, q) e =
     let f = flags-first o p (flagsOf os ps) in
     let d = drop-at (fieldOf w o p) (bodyOf ws os ps ++ rest) (cond (not (eqb o p)) w 0) (field-used w o p) in
     rw (f .0, f .1, append-assoc, field-back w o p (bodyOf ws os ps ++ rest) h, d, row-back ws os ps rest q (omega arith))
-
--- Widths that are at most four are not cut.
-pub cut-same : (ws : List ℕ) → ((i : ℕ) → getD ws i 0 ≤ 4) → cut ws ≡ ws
-unfolding cut
-cut-same [] h = refl
-cut-same (w ∷ ws) h =
-    let e : min w 4 ≡ w = omega (arith, h 0) in
-    rw (e, cut-same ws (λ i. h (suc i)))

@@ -19,7 +19,7 @@ use Rattle.spec_refusals.specs.Refusals.{someOf, is, isOneOf, unknown, badNumbe
 unfoldable pub waiterBy : Kernel → Call → ℕ
 waiterBy k c = cond (isOneOf c (15 ∷ 19 ∷ 28 ∷ [])) (firstAtHome (k .threads) (k .places) (semaphoreHome (c .a))) 255
 
--- "A value (created id, message received at once, else 255)": the lowest free id of what is created, the message that a pend takes
+-- The value to come: the lowest free id of what is created, the message that a pend takes, else 255 [01, answers 1].
 unfoldable pub foundBy : Kernel → Call → ℕ
 foundBy k c =
     cond (is c 2) (freeThread k)

@@ -53,7 +53,7 @@ fn waiter_by(k: Kernel, c: Call) -> u8
     }
 }
 
-// The created id, or the message received at once, else 255.
+// The id that a create will give, or the message that a pend takes, else 255.
 fn found_by(k: Kernel, c: Call) -> u8
     ensures { λ r. ⌜ r ≡ foundBy k c ⌝ }
 {

@@ -1,4 +1,4 @@
--- The events are worked out in id order: one event more.
+-- Working out the events, the lowest id first: one event more.
 use Prim.Native.Nat.{ℕ, zero, suc, _+_}
 use mathlib.Core.Path.{_≡_, sym}
 use mathlib.Core.Bool.{true, false}

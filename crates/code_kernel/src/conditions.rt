@@ -27,7 +27,7 @@ pub fn is_ready(t: Thread) -> bool
     ready_for(c)
 }
 
-// Whether the mask has the channel; mask bit 0 is channel 1.
+// Whether the mask has the channel; its lowest bit stands for channel 1.
 pub fn masks(mask: u16, channel: u8) -> bool
     ensures { λ r. ⌜ r ≡ masks mask channel ⌝ }
 {

@@ -50,7 +50,7 @@ pub fn no_message() -> Message
     }
 }
 
-// No thread, semaphore or message, and each event in mode any with mask and values 0.
+// The fresh state: nothing is live, nobody runs, and the events, in mode any, have no bit masked.
 pub fn fresh() -> Kernel
     ensures { λ r. ⌜ r ≡ fresh ⌝ }
 {

@@ -80,8 +80,3 @@ module _ (threads : List Thread) (e : length threads ≡ 32) where
     pub first-empty : eqb (firstAtHome threads places h) 255 ≡ isEmpty (keep (isHome threads h) (items places))
     unfolding firstAtHome
     first-empty = first-none (keep (isHome threads h) (items places)) (λ c. omega (arith, line-member (items places) (λ z. omega arith) c))
-
-    -- any other id is a thread
-    pub first-thread : (firstAtHome threads places h ≡ 255 → ⊥) → firstAtHome threads places h < 32
-    unfolding firstAtHome
-    first-thread s = line-member (items places) (λ z. omega arith) (first-member (keep (isHome threads h) (items places)) s)

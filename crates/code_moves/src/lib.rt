@@ -8,8 +8,7 @@ ghost use Rattle.base_queue.specs.Queues.{items};
 ghost use Rattle.base_queue.specs.Tables.{placeBehind};
 ghost use Rattle.spec_kernel.specs.Records.{noThread, noMessage};
 ghost use Rattle.spec_kernel.specs.Places.{hasHome, rankOf, isQueued, streamOf};
-ghost use Rattle.spec_moves.specs.Moves.{rejoined, restored, ranksAfter, wakesAfter, postAfter, relocate, putThreadBack, repost, putMessageBack};
-use spec_moves::parts::Posts;
+ghost use Rattle.spec_moves.specs.Moves.{rejoined, ranksAfter, wakesAfter, postAfter, relocate};
 use spec_moves::parts::Threads;
 use code_kernel::places;
 use spec_kernel::records::Message;
@@ -82,7 +81,7 @@ fn post_place(records: [Message; 64], q: Queue, stream: u32) -> usize
 }
 
 // The places with thread `id` behind its equals in the list or queue of record r, or gone where r has none.
-pub fn rejoined_places(records: [Thread; 32], q: Queue, id: u8, r: Thread) -> Queue
+fn rejoined_places(records: [Thread; 32], q: Queue, id: u8, r: Thread) -> Queue
     ensures { λ x. ⌜ x ≡ rejoined (hasHome r) (ranksAfter records r) id q ⌝ }
 {
     let out = base_queue::without(q, id);
@@ -94,7 +93,7 @@ pub fn rejoined_places(records: [Thread; 32], q: Queue, id: u8, r: Thread) -> Qu
 }
 
 // The time queue with thread `id` behind those that wake with it or before it, or gone where r has no ticks left.
-pub fn rejoined_time(records: [Thread; 32], q: Queue, id: u8, r: Thread) -> Queue
+fn rejoined_time(records: [Thread; 32], q: Queue, id: u8, r: Thread) -> Queue
     ensures { λ x. ⌜ x ≡ rejoined (ltb 0 (r .ticks)) (wakesAfter records r) id q ⌝ }
 {
     let out = base_queue::without(q, id);
@@ -117,17 +116,6 @@ pub fn rejoined_posts(records: [Message; 64], q: Queue, id: u8, r: Message) -> Q
     base_queue::with_at(out, i, id)
 }
 
-// The queue with x back at place i; 255 is no place.
-fn put_back(q: Queue, i: u8, x: u8) -> Queue
-    ensures { λ r. ⌜ r ≡ restored i x q ⌝ }
-{
-    let out = base_queue::without(q, x);
-    if i == 255 {
-        return out;
-    }
-    base_queue::with_at(out, i as usize, x)
-}
-
 // Thread `id` gets the record r and takes its places.
 pub fn relocated(p: Threads, id: u8, r: Thread) -> Threads
     ensures { λ x. ⌜ x ≡ relocate id r p ⌝ }
@@ -146,53 +134,5 @@ pub fn relocated(p: Threads, id: u8, r: Thread) -> Threads
     if old.ticks != r.ticks {
         next.time = rejoined_time(records, time, id, r);
     }
-    next
-}
-
-// Thread `id` gets the record r back, at its old places.
-pub fn thread_put_back(p: Threads, id: u8, r: Thread, place: u8, due: u8) -> Threads
-    ensures { λ x. ⌜ x ≡ putThreadBack id r place due p ⌝ }
-{
-    if 32 <= id {
-        return p;
-    }
-    let i = id as usize;
-    let places = p.places;
-    let time = p.time;
-    let mut next = p;
-    next.records[i] = r;
-    next.places = put_back(places, place, id);
-    next.time = put_back(time, due, id);
-    next
-}
-
-// Message `id` gets the record r and takes its place.
-pub fn reposted(p: Posts, id: u8, r: Message) -> Posts
-    ensures { λ x. ⌜ x ≡ repost id r p ⌝ }
-{
-    if 64 <= id {
-        return p;
-    }
-    let i = id as usize;
-    let records = p.records;
-    let posted = p.posted;
-    let mut next = p;
-    next.records[i] = r;
-    next.posted = rejoined_posts(records, posted, id, r);
-    next
-}
-
-// Message `id` gets the record r back, at its old place.
-pub fn message_put_back(p: Posts, id: u8, r: Message, place: u8) -> Posts
-    ensures { λ x. ⌜ x ≡ putMessageBack id r place p ⌝ }
-{
-    if 64 <= id {
-        return p;
-    }
-    let i = id as usize;
-    let posted = p.posted;
-    let mut next = p;
-    next.records[i] = r;
-    next.posted = put_back(posted, place, id);
     next
 }

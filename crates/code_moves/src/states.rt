@@ -58,7 +58,7 @@ pub fn filed(k: Kernel, id: u8, r: Message) -> Kernel
     next
 }
 
-// With both levels at 0 the scheduler chooses.
+// Outside every region the scheduler says who runs.
 pub fn scheduled(k: Kernel) -> Kernel
     ensures { λ r. ⌜ r ≡ scheduled k ⌝ }
 {

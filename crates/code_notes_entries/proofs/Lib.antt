@@ -1,5 +1,5 @@
 pub mod Entries
 pub mod EntryTurns
-pub mod Fields
+pub mod RowFields
 pub mod Fits
 pub mod Typed

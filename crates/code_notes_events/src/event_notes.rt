@@ -15,7 +15,7 @@ use crate::event_rows;
 const EVENT_WIDTHS: [u8; 8] = [1, 4, 4, 0, 0, 0, 0, 0];
 
 // An event before: its id, and what isn't as after the call.
-pub fn put_event(log: &mut [u8], at: usize, i: u8, old: Event, new: Event) -> usize
+fn put_event(log: &mut [u8], at: usize, i: u8, old: Event, new: Event) -> usize
     ensures { λ r. ⌜ pen (now (log .exit)) r ≡ puts (pen (now (log .entry)) at) (eventNoted i old new) ⌝ }
 {
     let before = event_rows::row_of(old);

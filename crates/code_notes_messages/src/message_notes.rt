@@ -20,7 +20,7 @@ use crate::message_rows;
 const MESSAGE_WIDTHS: [u8; 8] = [1, 1, 1, 2, 4, 4, 1, 1];
 
 // A message before: its id, and what isn't as predicted of its record and its place; `runner` is who runs after the call.
-pub fn put_message(
+fn put_message(
     log: &mut [u8],
     at: usize,
     m: u8,

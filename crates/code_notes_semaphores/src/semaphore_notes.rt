@@ -15,7 +15,7 @@ use crate::semaphore_rows;
 const SEMAPHORE_WIDTHS: [u8; 8] = [1, 2, 2, 4, 4, 0, 0, 0];
 
 // A semaphore before: its id, and what isn't as predicted of its record.
-pub fn put_semaphore(
+fn put_semaphore(
     log: &mut [u8],
     at: usize,
     i: u8,

@@ -30,7 +30,7 @@ fn moves_in_place(runner: u8, c: Call, t: u8) -> bool
 }
 
 // Whether the call did more to thread t than ageing explains; `runner` is who ran before it.
-pub fn is_touched(t: u8, runner: u8, c: Call, old: Thread, new: Thread) -> bool
+fn is_touched(t: u8, runner: u8, c: Call, old: Thread, new: Thread) -> bool
     ensures { λ r. ⌜ r ≡ changedThread t runner c old new ⌝ }
 {
     if !thread_rows::same(old, thread_rows::younger(c, new)) {
@@ -40,7 +40,7 @@ pub fn is_touched(t: u8, runner: u8, c: Call, old: Thread, new: Thread) -> bool
 }
 
 // The entry of thread t: its id, its code before, and what isn't as predicted of its record and its two old places.
-pub fn put_thread(
+fn put_thread(
     log: &mut [u8],
     at: usize,
     t: u8,

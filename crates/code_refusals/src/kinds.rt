@@ -96,7 +96,7 @@ pub fn is_known(c: Call) -> bool
     c.kind <= 30
 }
 
-// Fields without a meaning must be 0.
+// Whether each field that the kind doesn't use is 0.
 pub fn unused_are_zero(c: Call) -> bool
     ensures { λ r. ⌜ r ≡ unusedAreZero c ⌝ }
 {

@@ -120,7 +120,7 @@ fn stops_caller(n: Named, runner: u8, c: Call) -> bool
     }
 }
 
-// A level is above 0, and the call would stop the caller.
+// Inside a region, a call that would stop the caller.
 fn blocks_in_region(unscheduled: u8, critical: u8, runner: u8, n: Named, c: Call) -> bool
     ensures { λ r. ⌜ r ≡ blocksOf unscheduled critical runner n c ⌝ }
 {

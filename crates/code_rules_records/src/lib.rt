@@ -18,7 +18,7 @@ fn no_wake(w: Wake) -> bool
     }
 }
 
-// All fields are 0; ready and none count as 0.
+// Every field is 0; a ready condition and no wake reason are 0 too.
 fn is_no_thread(r: Thread) -> bool
     ensures { λ b. ⌜ b ≡ isNoThread r ⌝ }
 {

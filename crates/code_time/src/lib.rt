@@ -103,7 +103,7 @@ fn time_passes(p: Threads) -> Threads
     }
 }
 
-// Periodic semaphore i loses a tick, and at 0 is posted and set to its period.
+// Semaphore i, where it is periodic, has a tick less; with its last one it is posted and its period begins again.
 fn pulse(w: Waiting, i: u8) -> Waiting
     ensures { λ x. ⌜ Does (pulse i) w x ⌝ }
 {

@@ -1,5 +1,5 @@
 -- The state rules but for who runs, in a form that each step of a call keeps: record by record, and everybody in place.
--- `waited i` stands for "event i is not TRUE", so that bits and events may change before the events are worked out.
+-- `waited i` says that event i is not TRUE, so that bits and events may change before the events are worked out.
 -- Beside it: Ends (from and to the rules, who runs), Accepted (what the refusals leave), Free (free ids), Steps (waking, blocking, lists).
 use Prim.Native.Nat.{ℕ, _≤_, _<_}
 use mathlib.Core.Path.{_≡_, refl, sym, ap, _∙_}

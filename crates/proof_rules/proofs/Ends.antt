@@ -86,7 +86,7 @@ sized {k} C =
     }
 
 -- ---- who runs
--- "A level above 0: some ready thread runs."
+-- In a region whoever runs is ready [01, state 8.2].
 abbrev pub Runs : Kernel → Type 0
 Runs k = 0 < k .unscheduled + k .critical → isReady (thread k (k .runner)) ≡ true
 

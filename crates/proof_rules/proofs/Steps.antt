@@ -71,13 +71,6 @@ module _ {waited : ℕ → Bool} {k : Kernel} (C : Core waited k) where
       let b = live-semaphore C i ((rw e at (condition-of C t)) .0) in
       home-line (256 + i) t (rw (live-waiter C t (λ z. let y : _≡_ {A = ℕ} 0 1 = cc in omega arith), e)) (omega arith)
 
-  -- and so for an event
-  pub event-waiter : (t i : ℕ) → thread k t .condition ≡ ForEvent i → 0 < count t (eventQueue k i)
-  unfolding homeOf
-  event-waiter t i e =
-      let b = (rw e at (condition-of C t)) .0 in
-      home-line (512 + i) t (rw (live-waiter C t (λ z. let y : _≡_ {A = ℕ} 0 1 = cc in omega arith), e)) (omega arith)
-
   -- ---- who runs in a region is ready still
   pub place-runs : (t : ℕ) → t < 32 → (r : Thread) → Runs k
       → (0 < k .unscheduled + k .critical → k .runner ≡ t → isReady r ≡ true) → Runs (moveThread t r k)

@@ -71,11 +71,6 @@ module _ (k : Kernel) (bytes : List ℕ) (sixteen : length bytes ≡ 16) (all : 
         let g : log ≡ noteFor k bytes ++ drop (0 + length (noteFor k bytes)) (replicate 2048 0) = f ∙ rw (y, noted-room (replicate 2048 0) 0 (noteFor k bytes) h) in
         (rw (g, length-append, u) (omega arith), rw (g, u) (take-at (noteFor k bytes) _ _ refl), u)
 
--- a state's own levels are bytes
-pub levels-fit : (k : Kernel) → k .unscheduled < 256 → k .critical < 256 → levelsFit k ≡ true
-unfolding levelsFit
-levels-fit k u v = rw (lt-ltb (k .unscheduled) 256 u, lt-ltb (k .critical) 256 v)
-
 module _ (k : Kernel) (bytes : List ℕ) (end : Kernel) (note : List ℕ) where
   pub levels-pass : levelsFit k ≡ false → yieldsAgain k bytes end note ≡ false
   unfolding yieldsAgain

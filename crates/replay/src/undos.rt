@@ -40,7 +40,7 @@ fn yields_again(old: Kernel, bytes: [u8; 16], end: Kernel, note: &[u8]) -> bool
     same_bytes(note, 0, &again[..n])
 }
 
-// The note undone: the earlier state with the length of log before the note, or 15.
+// The note undone: the earlier state, with what was used of the log before the note, or 15.
 fn undo_note(k: Kernel, note: &[u8], before: usize, used: usize) -> Logged
     ensures { λ r. ⌜ r ≡ cond (undoesNote k (now (note .entry))) (logged (answer 0 255 (backFrom k (now (note .entry)) .runner)) (backFrom k (now (note .entry))) before) (logged (answer 15 255 (k .runner)) k used) ⌝ }
 {

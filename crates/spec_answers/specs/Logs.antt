@@ -29,7 +29,7 @@ unfoldable pub noteFor : Kernel → List ℕ → List ℕ
 noteFor k bytes = noteOf k bytes (stateAfter k bytes)
 
 -- ---- on a state that keeps its rules
--- "13: the note is longer than the log's unused room"; it comes after every other number
+-- A call that no other number refuses gets 13 where its note doesn't fit behind the used part of the log [01, table: number 13].
 unfoldable pub recorded : Kernel → List ℕ → List ℕ → ℕ → Logged
 recorded k bytes log used =
     cond (eqb (numberOf k (callOf bytes)) 0)
@@ -38,11 +38,11 @@ recorded k bytes log used =
     (logged (answer 13 255 (k .runner)) k used))
     (logged (answer (numberOf k (callOf bytes)) 255 (k .runner)) k used)
 
--- "Each accepted call appends one note"; on a refusal not one byte changes
+-- An accepted call puts its note behind the used part; on a refusal not one byte changes [01, notes 1; answers 3].
 unfoldable pub logAfter : Kernel → List ℕ → List ℕ → ℕ → List ℕ
 logAfter k bytes log used = cond (eqb (numberOf k (callOf bytes)) 0) (noted log used (noteFor k bytes)) log
 
--- "the very part of the log that it wrote, or an empty part on a refusal"
+-- The part that is handed back: the note as written, or nothing where the call is refused [01, notes 5].
 unfoldable pub partAfter : Kernel → List ℕ → List ℕ → ℕ → List ℕ
 partAfter k bytes log used = cond (eqb (numberOf k (callOf bytes)) 0) (shown log used (noteFor k bytes)) []
 
@@ -56,12 +56,12 @@ logCalled k bytes log used = cond (keepsRules k) (logAfter k bytes log used) log
 unfoldable pub partCalled : Kernel → List ℕ → List ℕ → ℕ → List ℕ
 partCalled k bytes log used = cond (keepsRules k) (partAfter k bytes log used) []
 
--- ---- "An undo answers 0, 14 or 15."
+-- ---- the undo, which has the numbers 0, 14 and 15 [01, answers 5]
 -- the earlier state that the last note leads back to
 abbrev pub backAt : Kernel → List ℕ → ℕ → Kernel
 backAt k log used = backFrom k (lastNote log used)
 
--- "A successful undo returns value 255, the earlier state, its runner and the length of log before the note, and leaves the log's bytes."
+-- Undone, value 255: the earlier state, who ran then, and what was used of the log before the note; else all stays [01, answers 5 to 8].
 unfoldable pub undone : Kernel → List ℕ → ℕ → Logged
 undone k log used =
     cond (keepsRules k)

@@ -20,8 +20,8 @@ use Rattle.spec_answers.specs.Steps.{answer, called}
 use Rattle.spec_answers.specs.Logs.{logged, stateAfter, noteFor, calledWith, logCalled, partCalled, undone}
 use Rattle.spec_answers.specs.Runs.{AreRecords, trail, backTimes, stateAt, begun, run, undoneTimes, pointAt}
 
--- ---- Demand 1: "Any sixteen bytes may arrive as a call, with any state. Each is answered."
--- Number 14 exactly where the state breaks a state rule; it gives 255 for both, and the same state.
+-- ---- Demand 1: whatever sixteen bytes come as a call, on whatever state, they are answered.
+-- 14 exactly where a state rule is broken, with 255 for the value and for the runner, and the same state [01, table: number 14; answers 2].
 unfoldable pub BrokenIsRefused : Type 0
 BrokenIsRefused =
     (k : Kernel) (bytes : List ℕ) → Sized k
@@ -32,8 +32,8 @@ BrokenIsSame =
     (k : Kernel) (bytes : List ℕ) → keepsRules k ≡ false
     → called k bytes ≡ record { answer = answer 14 255 255; kernel = k }
 
--- "A refusal gives its number under exactly the conditions stated there": entry i of the table of refusals is given
--- exactly when its condition holds and none before it does.
+-- Each number under its own condition, neither more nor less: entry i of the table of refusals is given exactly when its
+-- condition holds and none before it does [01, answers 4].
 unfoldable pub RefusedExactly : Type 0
 RefusedExactly =
     (k : Kernel) (bytes : List ℕ) (i : ℕ) → Sized k → Rules k → i < 12
@@ -47,13 +47,13 @@ AcceptedExactly =
     (k : Kernel) (bytes : List ℕ) → Sized k → Rules k
     → (called k bytes .answer .number ≡ 0) ↔ ((i : ℕ) → getD (refusals k (callOf bytes)) i (0, false) .1 ≡ false)
 
--- "and changes neither the state nor one byte of the log"; value 255 and the runner as before.
+-- A refusal leaves the state; its value is 255, and the same thread runs [01, answers 2, 3]. For the log see RefusalLeavesLog.
 unfoldable pub RefusalChangesNothing : Type 0
 RefusalChangesNothing =
     (k : Kernel) (bytes : List ℕ) → keepsRules k ≡ true → (called k bytes .answer .number ≡ 0 → ⊥)
     → (called k bytes .kernel ≡ k) × (called k bytes .answer .value ≡ 255) × (called k bytes .answer .runner ≡ k .runner)
 
--- ---- Demand 2: "Every accepted call, tick or interrupt post gives the next state, answer and running thread."
+-- ---- Demand 2: what each accepted call, tick and interrupt makes of the state, what it answers, and who runs then.
 -- The rules are kept by every call, accepted or refused.
 unfoldable pub RulesAreKept : Type 0
 RulesAreKept =
@@ -64,7 +64,7 @@ unfoldable pub RunnerIsAnswered : Type 0
 RunnerIsAnswered =
     (k : Kernel) (bytes : List ℕ) → Sized k → Rules k → called k bytes .answer .runner ≡ called k bytes .kernel .runner
 
--- "With no region held the running thread is the first ready one of the highest priority, or none."
+-- Outside every region it is the first ready thread of the highest priority, or nobody [01, state 8.1].
 unfoldable pub FirstReadyRuns : Type 0
 FirstReadyRuns =
     (k : Kernel) (bytes : List ℕ) → Sized k → Rules k
@@ -87,7 +87,7 @@ OneResult =
     → (r ≡ s) × (l ≡ m)
 
 -- ---- Demand 1 with a log: a call answers as above, but for number 13.
--- "13: the note is longer than the log's unused room", where no other number is given.
+-- 13 exactly where the note doesn't fit the room left in the log and no other number is given [01, table: number 13].
 unfoldable pub ThirteenExactly : Type 0
 ThirteenExactly =
     (k : Kernel) (bytes log : List ℕ) (used : ℕ)
@@ -100,21 +100,21 @@ AnsweredAlike =
     (k : Kernel) (bytes log : List ℕ) (used : ℕ) → (calledWith k bytes log used .answer .number ≡ 13 → ⊥)
     → (calledWith k bytes log used .answer ≡ called k bytes .answer) × (calledWith k bytes log used .kernel ≡ called k bytes .kernel)
 
--- "No refusal touches state or log": the state, the used length and every byte stay, and the part is empty.
+-- A refusal leaves the state, the used length and every byte, and the part is empty [01, answers 3; notes 5].
 unfoldable pub RefusalLeavesLog : Type 0
 RefusalLeavesLog =
     (k : Kernel) (bytes log : List ℕ) (used : ℕ) → (calledWith k bytes log used .answer .number ≡ 0 → ⊥)
     → (calledWith k bytes log used .kernel ≡ k) × (calledWith k bytes log used .used ≡ used) × (logCalled k bytes log used ≡ log)
     × (length (partCalled k bytes log used) ≡ 0)
 
--- ---- Demand 3: "Undo accepts a last note exactly if some state and call yield this end state and this note."
+-- ---- Demand 3: the last note is undone exactly where an earlier state and a call yield it with this end state [01, table: number 15].
 unfoldable pub UndoneExactly : Type 0
 UndoneExactly =
     (k′ : Kernel) (log : List ℕ) (used : ℕ) → Sized k′ → Rules k′ → Within k′ → ((i : ℕ) → getD log i 0 < 256)
     → (undone k′ log used .answer .number ≡ 0)
     ↔ ((k : Kernel) × (bytes : List ℕ) × Yields k bytes k′ (lastNote log used))
 
--- It then gives that state, its runner, value 255 and the length of log before the note.
+-- It then gives that state and who ran in it, value 255, and what was used of the log before the note [01, answers 8].
 unfoldable pub UndoneIsThat : Type 0
 UndoneIsThat =
     (k k′ : Kernel) (bytes log : List ℕ) (used : ℕ) → Sized k′ → Rules k′ → Yields k bytes k′ (lastNote log used)
@@ -127,15 +127,15 @@ UndoRefused =
     (k′ : Kernel) (log : List ℕ) (used : ℕ) → (undone k′ log used .answer .number ≡ 0 → ⊥)
     → undone k′ log used ≡ cond (keepsRules k′) (logged (answer 15 255 (k′ .runner)) k′ used) (logged (answer 14 255 255) k′ used)
 
--- "Each note stays within document 01's length formula."
+-- No note is longer than the two states allow [01, notes 4].
 unfoldable pub NotesAreShort : Type 0
 NotesAreShort =
     (k : Kernel) (bytes : List ℕ) → Sized k → Rules k → Within k → length bytes ≡ 16 → ((i : ℕ) → getD bytes i 0 < 256)
     → called k bytes .answer .number ≡ 0
     → length (noteFor k bytes) ≤ mostBytes k (stateAfter k bytes)
 
--- "From any state that keeps the state rules, after any list of calls (refused ones among them) with all notes kept: undoing the
--- last k notes gives exactly the state before the last k accepted calls, for each k." Over lists of notes:
+-- And so for many: whatever calls came, accepted or refused, on a state that keeps the rules, to undo the last j of all their notes
+-- gives the very state that the last j accepted calls began with. Over lists of notes:
 unfoldable pub NotesLeadBack : Type 0
 NotesLeadBack =
     (k : Kernel) (records : List (List ℕ)) (j : ℕ) → Sized k → Rules k → Within k → AreRecords records

@@ -59,7 +59,7 @@ abbrev pub all : List Sample → Bool
 all [] = true
 all (s ∷ l) = let r = all l in holds s && r
 
--- nobody in particular is asked for
+-- nothing more is asked for
 abbrev pub anything : Kernel → Bool
 anything k = true
 
@@ -82,7 +82,7 @@ pend timeout = call 18 0 0 timeout 0
 
 abbrev pub samples : List Sample
 samples =
-    -- Fresh: yield gives 2; a tick gives 0 with runner 255.
+    -- With no thread there, a yield has no caller (2), and a tick passes with nobody running after it [01, samples 1].
     record {
       start = fresh;
       calls = call 6 0 0 0 0 ∷ tick ∷ [];
@@ -90,7 +90,7 @@ samples =
       then = anything;
       back = anything;
     }
-    -- Priority 30 is accepted, 0 and 31 give 5.
+    -- A thread of the lowest priority, 30, can be created; 0 and 31 are refused with 5 [01, samples 2].
     ∷ record {
       start = fresh;
       calls = create 30 ∷ create 0 ∷ create 31 ∷ [];
@@ -98,7 +98,7 @@ samples =
       then = anything;
       back = anything;
     }
-    -- Ids 0 (priority 5), 1 (3), 2 (5): thread 1 sleeps 2, thread 0 runs; it yields, 2 runs; two ticks later 1 runs.
+    -- While thread 1, the highest, sleeps two ticks, the two of priority 5 take turns by a yield; then it runs again [01, samples 3].
     ∷ record {
       start = fresh;
       calls = create 5 ∷ create 3 ∷ create 5 ∷ call 7 0 0 2 0 ∷ call 6 0 0 0 0 ∷ tick ∷ tick ∷ [];
@@ -114,7 +114,7 @@ samples =
       then = anything;
       back = anything;
     }
-    -- Pend on count 0, timeout 1, then a tick: timed out, and the queue is empty.
+    -- A pend is not met within its one tick: the thread is timed out, and nobody is left in the queue [01, samples 4].
     ∷ record {
       start = fresh;
       calls = semaphoreOf 0 1 ∷ create 5 ∷ pend 1 ∷ tick ∷ [];
@@ -122,7 +122,7 @@ samples =
       then = λ k. timedOut (thread k 0 .wake) && (isEmpty (semaphoreQueue k 0) && eqb (semaphore k 0 .count) 0);
       back = anything;
     }
-    -- A post then makes the count 1.
+    -- The same, and a post after it finds nobody to wake and raises the count to 1 [01, samples 4].
     ∷ record {
       start = fresh;
       calls = semaphoreOf 0 1 ∷ create 5 ∷ pend 1 ∷ tick ∷ call 19 0 0 0 0 ∷ [];
@@ -130,7 +130,7 @@ samples =
       then = λ k. eqb (semaphore k 0 .count) 1;
       back = anything;
     }
-    -- Count 1, maximum 1: a post is accepted and the count stays 1.
+    -- A post at the maximum, which is 1, passes and adds nothing [01, samples 5].
     ∷ record {
       start = fresh;
       calls = semaphoreOf 1 1 ∷ create 5 ∷ call 19 0 0 0 0 ∷ [];
@@ -138,7 +138,7 @@ samples =
       then = λ k. eqb (semaphore k 0 .count) 1;
       back = anything;
     }
-    -- Pend on count 0 inside an unscheduled region gives 6; on count 1 it passes.
+    -- In an unscheduled region a pend that would block is refused with 6; once the count is 1 it passes [01, samples 6].
     ∷ record {
       start = fresh;
       calls = semaphoreOf 0 1 ∷ create 5 ∷ call 8 0 0 0 0 ∷ pend 0 ∷ call 19 0 0 0 0 ∷ pend 0 ∷ [];
@@ -147,7 +147,7 @@ samples =
       then = λ k. eqb (semaphore k 0 .count) 0;
       back = anything;
     }
-    -- Tick in a critical region: 3.
+    -- In a critical region a tick is refused with 3, and the uptime stays [01, samples 7].
     ∷ record {
       start = fresh;
       calls = create 5 ∷ call 11 0 0 0 0 ∷ tick ∷ [];
@@ -155,7 +155,7 @@ samples =
       then = λ k. eqb (k .uptime) 0;
       back = anything;
     }
-    -- In an unscheduled one: accepted.
+    -- In an unscheduled region it is accepted, and the uptime goes up [01, samples 7].
     ∷ record {
       start = fresh;
       calls = create 5 ∷ call 8 0 0 0 0 ∷ tick ∷ [];
@@ -163,7 +163,7 @@ samples =
       then = λ k. eqb (k .uptime) 1;
       back = anything;
     }
-    -- Uptime 4,294,967,295, then a tick: 0; undo brings it back.
+    -- The tick after the greatest uptime makes it 0, and its undo makes it the greatest again [01, samples 8].
     ∷ record {
       start = withUptime 4294967295 fresh;
       calls = tick ∷ [];

@@ -12,7 +12,7 @@ use Rattle.spec_effects.specs.Effects.{effect, valueOf}
 use Rattle.spec_rules.specs.Tests.{keepsRules}
 use Rattle.spec_answers.specs.declared.Answer.{Answer}
 
--- "A number, a value (created id, message received at once, else 255), and who runs (255 for none)."
+-- What comes back: the number, the value (a new id, a message taken at once, or 255), and who runs (255 for nobody) [01, answers 1].
 abbrev pub answer : ℕ → ℕ → ℕ → Answer
 answer number value runner = record { number = number; value = value; runner = runner }
 
@@ -21,7 +21,7 @@ pub record Stepped : Type 0 where
   pub answer : Answer
   pub kernel : Kernel
 
--- "A refusal gives value 255 and the runner as before", and the same state.
+-- A refusal: its number, value 255, the same thread runs, and the state is the same [01, answers 2, 3].
 abbrev pub refused : ℕ → Kernel → Stepped
 refused number k = record { answer = answer number 255 (k .runner); kernel = k }
 
@@ -36,6 +36,6 @@ accepted k c = record { answer = answer 0 (valueOf k c) (nextState k c .runner);
 unfoldable pub step : Kernel → Call → Stepped
 step k c = cond (eqb (numberOf k c) 0) (accepted k c) (refused (numberOf k c) k)
 
--- Sixteen bytes on any state: "number 14 gives 255 for both", value and runner, where the state breaks a rule.
+-- Sixteen bytes on any state: where it breaks a rule, number 14, with 255 for the value and for the runner [01, answers 2].
 unfoldable pub called : Kernel → List ℕ → Stepped
 called k bytes = cond (keepsRules k) (step k (callOf bytes)) (record { answer = answer 14 255 255; kernel = k })

@@ -1,4 +1,4 @@
--- "Sixteen bytes, little endian: kind (byte 0), a (byte 1), b (bytes 2-3), c, d, e (four bytes each)."
+-- A call record's sixteen bytes, low byte first: one each for kind and a, two for b, four each for c, d and e [01, records 1].
 use Prim.Native.Nat.{ℕ, _+_, _*_}
 use mathlib.Core.List.{List}
 use lib.ListN.{getD}

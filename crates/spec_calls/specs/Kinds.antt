@@ -6,8 +6,8 @@ use lib.Dec.{eqb, ltb, leb}
 use lib.ListN.{getD}
 use Rattle.spec_calls.specs.declared.call.Call.{Call}
 
--- "Kinds 1 and 28..30 come from interrupts. Kinds 2, 14 and 20 may also come while no thread runs.
--- All others come from the running thread."
+-- Who calls: an interrupt (kinds 1, 28, 29 and 30); the running thread or, while none runs, the boot (2, 14 and 20); the running
+-- thread only (all others) [01, records 3 to 5].
 abbrev pub byInterrupt : ℕ
 byInterrupt = 0
 
@@ -83,7 +83,7 @@ isKnown c = ltb 0 (c .kind) && leb (c .kind) 30
 abbrev pub usedOrZero : ℕ → ℕ → ℕ → Bool
 usedOrZero used n field = eqb (used / n % 2) 1 || eqb field 0
 
--- "Fields without a meaning must be 0." No kind uses e.
+-- Each field that the kind doesn't use is 0; no kind uses e [01, records 2].
 unfoldable pub unusedAreZero : Call → Bool
 unusedAreZero c =
     usedOrZero (rowOf c .used) fa (c .a)

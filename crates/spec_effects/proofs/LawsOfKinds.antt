@@ -20,7 +20,7 @@ module _ (k : Kernel) (c : Call) where
   pub interrupt-clears : c .kind ≡ 30 → effect k c ≡ clearBit k c
   interrupt-clears e = sym (does-at k c 30 e)
 
-  -- "A value (created id, message received at once, else 255)."
+  -- The value: the new id of a create, and the message that a pend takes, 255 where it takes none [01, answers 1].
   pub thread-given : c .kind ≡ 2 → valueOf k c ≡ freeThread k
   thread-given e = sym (value-at k c 2 e)
 

@@ -27,7 +27,7 @@ giving value does = record { does = does; value = λ k c. value k }
 abbrev pub noKind : Kind
 noKind = plain (λ k c. k)
 
--- "A value (created id, message received at once, else 255)."
+-- What each kind does and its value: the new id of a create, the message that a pend takes at once, else 255 [01, answers 1].
 abbrev pub effectsOfKinds : List Kind
 effectsOfKinds =
     noKind

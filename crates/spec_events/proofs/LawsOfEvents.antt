@@ -47,7 +47,7 @@ isMet k i = isTrue (k .bits) (event k i)
 abbrev pub waiters : Kernel → Kernel → List ℕ
 waiters k k′ = waitersFrom (isMet k′) (threadsOf k) 0 8
 
--- The events of k′ are worked out: "in id order, and each TRUE one wakes all its waiters in queue order".
+-- The events of k′ are worked out, the lowest id first: all that waited for a TRUE one wake, as they stood [01, calls: Event 5].
 pub record WorkedOut (k k′ : Kernel) : Type 0 where
   -- nobody waits for a TRUE event
   pub nobody : (i : ℕ) → i < 8 → isMet k′ i ≡ true → eventQueue k′ i ≡ []
@@ -223,7 +223,7 @@ module _ (events : List Event) (bits : ℕ) where
       scheduler = record { uptime = refl; unscheduled = refl; critical = refl; runner = refl };
     }
 
--- "events are worked out in id order, and each TRUE one wakes all its waiters in queue order"
+-- The definition does just that [01, calls: Event 5].
 pub worked-out : (k : Kernel) → Standing (threadsOf k) → Bytes (threadsOf k) → WorkedOut k (workedOut k)
 worked-out k S B = works-out (k .events) (k .bits) k S B
 
@@ -267,7 +267,7 @@ module _ (k : Kernel) (c : Call) where
   unfolding loadEvent workedOut
   load-bits = refl
 
-  -- "After each accepted set, clear or load, at once, events are worked out"
+  -- And it is done at once by a set, a clear and a load [01, calls: Event 5].
   module _ (S : Standing (threadsOf k)) (B : Bytes (threadsOf k)) where
     pub set-works-out : WorkedOut k (setBit k c)
     unfolding setBit
@@ -281,7 +281,7 @@ module _ (k : Kernel) (c : Call) where
     unfolding loadEvent
     load-works-out = works-out (set (k .events) (c .a) _) (k .bits) k S B
 
-  -- "Pend passes on TRUE"; else the caller waits behind its equals
+  -- A pend on a TRUE event changes nothing; else the caller waits behind its equals [01, calls: Event 4; calls: Blocking 1].
   pub pend-event-passes : isMet k (c .a) ≡ true → pendEvent k c ≡ k
   unfolding pendEvent
   pend-event-passes m = rw m

@@ -27,7 +27,7 @@ wakeIn t p = relocate t (awake Wake.Met (threadIn p t .reply) (threadIn p t)) p
 unfoldable pub wokenIn : ℕ → Threads → Threads
 wokenIn home p = each wakeIn (atHomeIn p home) p
 
--- "each TRUE one wakes all its waiters in queue order"
+-- If event i is TRUE, all that wait for it wake, the first in its queue first [01, calls: Event 5].
 unfoldable pub workOut : List Event → ℕ → ℕ → Threads → Threads
 workOut events bits i p = cond (isTrue bits (getD events i noEvent)) (wokenIn (eventHome i) p) p
 
@@ -36,7 +36,7 @@ unfoldable pub workOutFrom : List Event → ℕ → ℕ → ℕ → Threads → 
 workOutFrom events bits i zero p = p
 workOutFrom events bits i (suc n) p = workOutFrom events bits (suc i) n (workOut events bits i p)
 
--- "After each accepted set, clear or load, at once, events are worked out in id order."
+-- All events, the lowest id first; kinds 20, 22, 23, 29 and 30 end with this, in a region too [01, calls: Event 5].
 unfoldable pub workedOut : Kernel → Kernel
 workedOut k = withThreads (workOutFrom (k .events) (k .bits) 0 8 (threadsOf k)) k
 
@@ -44,7 +44,7 @@ workedOut k = withThreads (workOutFrom (k .events) (k .bits) 0 8 (threadsOf k)) 
 unfoldable pub loadEvent : Kernel → Call → Kernel
 loadEvent k c = workedOut (withEvent (c .a) (record { any = eqb (c .b) 1; mask = c .c; values = c .d }) k)
 
--- kind 21: "Pend passes on TRUE"; else it blocks
+-- kind 21: nothing changes if the event is TRUE, else the caller blocks [01, calls: Event 4].
 unfoldable pub pendEvent : Kernel → Call → Kernel
 pendEvent k c = cond (isTrue (k .bits) (event k (c .a))) k (block (ForEvent (c .a)) (c .c) k)
 

@@ -1,5 +1,4 @@
--- The next message: in a table that is in the order of the streams, a thread's first message on a masked channel is the oldest of the lowest
--- masked channel that has one.
+-- The next message: in a table in the order of the streams, a thread's first message on a masked channel is the one that a pend takes.
 use Prim.Native.Nat.{ℕ, zero, suc, _+_, _≤_, _<_}
 use mathlib.Core.Path.{_≡_, refl, sym}
 use mathlib.Core.Bool.{Bool, true, cond, and-true, and-false, and-eq-true-iff}
@@ -104,7 +103,7 @@ module _ (k : Kernel) (t mask : ℕ) where
       few m (kept (isMine (k .messages) t mask) (items (k .posted)) c .1),
     )
 
-    -- "Pend takes the oldest of the lowest masked channel that has one"
+    -- Of the masked channels the lowest that has any, and there the oldest [01, calls: Message 3].
     pub next-lowest : firstFor (k .messages) (k .posted) t mask ≡ lowestMasked k t mask
     unfolding firstFor lowestMasked
     next-lowest = go mine refl

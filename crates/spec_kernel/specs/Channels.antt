@@ -18,7 +18,7 @@ unfoldable pub maskedFrom : Kernel → ℕ → ℕ → ℕ → ℕ → List ℕ
 maskedFrom k t mask c zero = []
 maskedFrom k t mask c (suc n) = cond (masks mask c) (channel k t c) [] ++ maskedFrom k t mask (suc c) n
 
--- "Pend takes the oldest of the lowest masked channel that has one", or 255 for none
+-- The message that a pend gets: of the channels it asks for, the lowest with any, and there the oldest; else 255 [01, calls: Message 3].
 unfoldable pub lowestMasked : Kernel → ℕ → ℕ → ℕ
 lowestMasked k t mask = firstOf (maskedFrom k t mask 1 15)
 

@@ -47,11 +47,11 @@ timedFor (ForSemaphore i) ticks = ltb 0 ticks
 timedFor (ForEvent i) ticks = ltb 0 ticks
 timedFor (ForMessage mask) ticks = ltb 0 ticks
 
--- "a sleeping thread, or a waiting one with timeout above 0"
+-- A live thread that sleeps, or waits and has ticks left: who belongs in the time queue [01, state 2].
 abbrev pub isTimed : Thread → Bool
 isTimed r = r .live && timedFor (r .condition) (r .ticks)
 
--- "mask bit 0 is channel 1"
+-- Channel c is bit c - 1 of the mask; no mask has a channel 0 [01, calls: Message 3].
 abbrev pub masks : ℕ → ℕ → Bool
 masks mask c = ltb 0 c && bitAt mask (c - 1)
 

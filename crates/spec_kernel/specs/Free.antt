@@ -1,4 +1,4 @@
--- "A create takes the lowest free id."
+-- Free ids: what is created gets the lowest [01, modelled 5].
 use Prim.Native.Nat.{ℕ, suc}
 use mathlib.Core.Bool.{Bool, cond}
 use mathlib.Core.List.{List, [], _∷_}

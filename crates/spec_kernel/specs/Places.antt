@@ -34,7 +34,7 @@ homeFor (ForSemaphore i) priority = semaphoreHome i
 homeFor (ForEvent i) priority = eventHome i
 homeFor (ForMessage mask) priority = nowhere
 
--- "Ready: one place in its priority's list. Waiting for a semaphore or event: one place in that live object's queue."
+-- Where a thread stands: in its priority's list, in the queue of the semaphore or event it waits for, or nowhere [01, state 1.2, 1.3].
 unfoldable pub homeOf : Thread → ℕ
 homeOf r = cond (r .live) (homeFor (r .condition) (r .priority)) nowhere
 

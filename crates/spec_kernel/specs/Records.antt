@@ -13,7 +13,7 @@ use Rattle.spec_kernel.specs.declared.records.Event.{Event}
 use Rattle.spec_kernel.specs.declared.records.Message.{Message}
 use Rattle.spec_kernel.specs.declared.records.Kernel.{Kernel}
 
--- "All fields of a record that isn't live are 0 (ready and none count as 0)."
+-- A record that isn't live is 0 throughout: ready is the 0 of a condition, none that of a wake reason [01, state 7.3].
 abbrev pub noThread : Thread
 noThread = record { live = false; priority = 0; first = 0; condition = Ready; ticks = 0; wake = Wake.None; reply = 0 }
 
@@ -40,11 +40,11 @@ event k i = getD (k .events) i noEvent
 abbrev pub message : Kernel → ℕ → Message
 message k m = getD (k .messages) m noMessage
 
--- "each event in mode any with mask and values 0"
+-- An event of the fresh state: mode any, no bit masked, no value set [01, modelled 6].
 abbrev pub freshEvent : Event
 freshEvent = record { any = true; mask = 0; values = 0 }
 
--- "The fresh state has no thread, semaphore or message, uptime 0, levels 0, all bits clear, and each event in mode any with mask and values 0."
+-- The fresh state: nothing is live, uptime, levels and bits are 0, events are as above, and nobody runs [01, modelled 6].
 unfoldable pub fresh : Kernel
 fresh =
     record {

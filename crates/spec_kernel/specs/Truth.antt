@@ -4,6 +4,6 @@ use mathlib.Core.Bool.{Bool, cond}
 use Rattle.base_bits.specs.Words.{allMatch, anyMatch}
 use Rattle.spec_kernel.specs.declared.records.Event.{Event}
 
--- "Mode all: TRUE when every masked bit equals its value bit. Mode any: when at least one does. Mask 0: all is TRUE, any is FALSE."
+-- Mode all: no masked bit differs from its value (so mask 0 is TRUE); mode any: some masked bit agrees with it [01, calls: Event 1 to 3].
 unfoldable pub isTrue : ℕ → Event → Bool
 isTrue bits e = cond (e .any) (anyMatch (e .mask) (e .values) bits) (allMatch (e .mask) (e .values) bits)

@@ -35,7 +35,7 @@ make-message k m r e b =
     }
 
 module _ (k : Kernel) (c : Call) (e : length (k .messages) ≡ 64) where
-  -- "The creator owns it." It is held, and its sender is the creator.
+  -- A new message belongs to its creator, who holds it and is its sender [01, calls: Message 1; state 6.4].
   pub create-message-makes : freeMessage k < 64
       → MadeMessage (freeMessage k) (record { live = true; owner = k .runner; sender = k .runner; kind = c .b; size = c .c; address = c .d; channel = 0 }) k (createMessage k c)
   unfolding createMessage

@@ -73,7 +73,7 @@ module _ (k : Kernel) (t mask : ℕ) where
           let (e, c) = mine-masked y (rw z (count-head y r)) in
           absurd (omega (arith, rw (h (message k y .channel) e) at c))
 
-  -- "Pend takes the oldest of the lowest masked channel that has one."
+  -- Of the channels asked for, the lowest that has any, and there the one that came first [01, calls: Message 3].
   module _ (F : Filed (postsOf k)) (c m : ℕ) (l : List ℕ) (e : masks mask c ≡ true) (oldest : channel k t c ≡ m ∷ l)
       (lowest : (d : ℕ) → d < c → masks mask d ≡ true → channel k t d ≡ []) where
     pub next-oldest : firstFor (k .messages) (k .posted) t mask ≡ m
@@ -135,7 +135,7 @@ file-only m r k = record {
 -- ---- pend
 -- The caller t takes message m, the oldest of its channel c, which has l behind it.
 pub record Taken (m t c : ℕ) (l : List ℕ) (k k′ : Kernel) : Type 0 where
-  -- "A received message is held": out of its channel, and every other channel is as it was
+  -- Whoever receives it holds it: it is out of its channel, and every other channel is as it was [01, state 6.3].
   pub rest : channel k′ t c ≡ l
   pub channels : (u d : ℕ) → 0 < d → (u ≡ t → d ≡ c → ⊥) → channel k′ u d ≡ channel k u d
   pub itself : message k′ m ≡ handed t (message k m .sender) 0 (message k m)
@@ -168,7 +168,7 @@ module _ (k : Kernel) (F : Filed (postsOf k)) (call : Call) where
           only = file-only m r k;
         })
 
-  -- "else it blocks"
+  -- With none on any channel asked for, the caller blocks [01, calls: Blocking 1].
   module _ (none : (d : ℕ) → masks (call .b) d ≡ true → channel k (k .runner) d ≡ []) where
     pub pend-message-blocks : Standing (threadsOf k) → Runnable (thread k (k .runner))
         → Blocked (ForMessage (call .b)) (call .c) nowhere (k .runner) k (pendMessage k call)
@@ -180,7 +180,7 @@ module _ (k : Kernel) (F : Filed (postsOf k)) (call : Call) where
     pend-message-leaves = rw (next-none k (k .runner) (call .b) none) (block-only (ForMessage (call .b)) (call .c) k)
 
 -- ---- post
--- Message m is posted to channel c of thread t: "Post hands ownership to the recipient and appends to the channel."
+-- Message m is posted to channel c of thread t: it belongs to t now, and stands last in that channel [01, calls: Message 2].
 pub record Posted (m t c : ℕ) (k k′ : Kernel) : Type 0 where
   pub last : channel k′ t c ≡ channel k t c ++ m ∷ []
   pub channels : (u d : ℕ) → (u ≡ t → d ≡ c → ⊥) → channel k′ u d ≡ channel k u d
@@ -189,7 +189,7 @@ pub record Posted (m t c : ℕ) (k k′ : Kernel) : Type 0 where
   pub others : OtherMessages m k k′
   pub only : OnlyMessages k k′
 
--- Message m is handed to thread t, which waits for it: it "receives the message at the post, as its reply, and wakes".
+-- Message m is posted to thread t, which waits for it: t gets it there and then, as its reply, and wakes [01, calls: Message 4].
 pub record HandedOver (m t : ℕ) (k k′ : Kernel) : Type 0 where
   pub woken : Woken Wake.Met m t k k′
   -- the message is held by the recipient, and no channel changes

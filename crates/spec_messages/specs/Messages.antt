@@ -27,7 +27,7 @@ passed owner sender channel r =
       channel = channel;
     }
 
--- kind 24: create message, type b, size c, address d. "The creator owns it", and is its sender.
+-- kind 24: create message, type b, size c, address d. The caller is its owner and sender [01, calls: Message 1; state 6.4].
 unfoldable pub createMessage : Kernel → Call → Kernel
 createMessage k c =
     moveMessage (freeMessage k)
@@ -46,22 +46,22 @@ createMessage k c =
 unfoldable pub destroyMessage : Kernel → Call → Kernel
 destroyMessage k c = moveMessage (c .a) noMessage k
 
--- "where the recipient waits on that channel, it receives the message at the post, as its reply, and wakes"
+-- Thread t waits for message m when it is posted: it holds it, has it as its reply, and wakes as met [01, calls: Message 4].
 unfoldable pub handOver : ℕ → ℕ → Kernel → Kernel
 handOver m t k = moveThread t (awake Wake.Met m (thread k t)) (moveMessage m (passed t (k .runner) 0 (message k m)) k)
 
--- kind 26: "Post hands ownership to the recipient and appends to the channel."
+-- kind 26: the message belongs to the recipient now; it is handed over where awaited, else last in its channel [01, calls: Message 2, 4].
 unfoldable pub postMessage : Kernel → Call → Kernel
 postMessage k c =
     cond (awaits (thread k (c .b) .condition) (asByte (c .c)))
     (handOver (c .a) (asByte (c .b)) k)
     (moveMessage (c .a) (passed (asByte (c .b)) (k .runner) (asByte (c .c)) (message k (c .a))) k)
 
--- "A received message is held."
+-- The owner takes message m out of its channel and holds it [01, state 6.3].
 unfoldable pub receive : ℕ → Kernel → Kernel
 receive m k = moveMessage m (passed (message k m .owner) (message k m .sender) 0 (message k m)) k
 
--- kind 27: "Pend takes the oldest of the lowest masked channel that has one"; else it blocks
+-- kind 27: the caller takes the oldest message of the lowest masked channel with any; with none it blocks [01, calls: Message 3].
 unfoldable pub pendMessage : Kernel → Call → Kernel
 pendMessage k c =
     cond (eqb (nextMessage k (c .b)) 255) (block (ForMessage (c .b)) (c .c) k) (receive (nextMessage k (c .b)) k)

@@ -11,11 +11,11 @@ use borrow.Table.Steps.{cases}
 use Rattle.base_queue.specs.declared.Queue.{Queue}
 use Rattle.base_queue.specs.Lists.{without}
 use Rattle.base_queue.specs.Queues.{items, pack, roomFor}
-use Rattle.base_queue.specs.Tables.{moved, placeBehind, putBack}
+use Rattle.base_queue.specs.Tables.{moved, placeBehind}
 use Rattle.base_queue.proofs.Lists.{rest-next, rest-end}
 use Rattle.base_queue.proofs.Queues.{items-pack, length-items, sized-items}
 use Rattle.base_queue.proofs.Counts.{behind-place}
-use Rattle.spec_moves.specs.Moves.{hasRoom, rejoined, restored}
+use Rattle.spec_moves.specs.Moves.{hasRoom, rejoined}
 
 -- a record past the last is the default
 pub past-end : {A : Type 0} (l : List A) (d : A) {k u : ℕ} → length l ≡ k → k ≤ u → getD l u d ≡ d
@@ -61,12 +61,3 @@ module _ (x : ℕ) (q out : Queue) (e : out ≡ pack (without x (items q))) wher
     pub joins : stays ≡ true → (r : Queue) (i : ℕ) → i ≡ placeBehind after (items out) → r ≡ pack (roomFor i x (items out)) → r ≡ rejoined stays after x q
     unfolding roomFor moved
     joins b r i p d = rw (d, p, e, items-pack, behind-place, b)
-
-  -- or comes back to, at its old place
-  pub comes-back : (i : ℕ) → (i ≡ 255 → ⊥) → (r : Queue) → r ≡ pack (roomFor i x (items out)) → r ≡ restored i x q
-  unfolding roomFor putBack
-  comes-back i p r d = rw (d, e, items-pack) (cases (hasRoom x (items q)) (λ h. rw (h, ne-eqb i 255 p)) (λ h. rw h))
-
-  pub stays-out : out ≡ restored 255 x q
-  unfolding putBack
-  stays-out = e ∙ cases (hasRoom x (items q)) (λ h. rw h) (λ h. rw h)

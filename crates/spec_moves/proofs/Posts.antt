@@ -11,15 +11,14 @@ use borrow.Author.Tests.{eqb-true, ne-eqb, ltb-true, ltb-false, lt-ltb, le-ltb}
 use borrow.Table.Steps.{cases}
 use Rattle.base_queue.specs.Lists.{keep, isNot, without}
 use Rattle.base_queue.specs.Queues.{items}
-use Rattle.base_queue.specs.Tables.{oldPlace}
 use Rattle.base_queue.proofs.Counts.{same}
 use Rattle.spec_kernel.specs.declared.records.Message.{Message}
 use Rattle.spec_moves.specs.declared.parts.Posts.{Posts}
 use Rattle.spec_kernel.specs.Records.{noMessage}
 use Rattle.spec_kernel.specs.Places.{isQueued, streamOf, onChannel}
-use Rattle.spec_moves.specs.Moves.{rejoined, postAfter, repost, putMessageBack}
+use Rattle.spec_moves.specs.Moves.{rejoined, postAfter, repost}
 use Rattle.spec_moves.specs.Standing.{messageIn, Filed}
-use Rattle.spec_moves.proofs.Rejoined.{rejoined-keep, Table, table-back, table-moved, table-leaves, table-last}
+use Rattle.spec_moves.proofs.Rejoined.{rejoined-keep, Table, table-moved, table-leaves, table-last}
 
 -- the messages of a stream, oldest first
 abbrev pub streamIn : Posts → ℕ → List ℕ
@@ -28,10 +27,6 @@ streamIn q s = keep (λ u. eqb (streamOf (messageIn q u)) s) (items (q .posted))
 -- the messages on a channel of a thread, oldest first
 abbrev pub channelIn : Posts → ℕ → ℕ → List ℕ
 channelIn q t c = keep (λ u. onChannel t c (messageIn q u)) (items (q .posted))
-
--- two are equal by their fields
-posts-eq : (p q : Posts) → p .records ≡ q .records → p .posted ≡ q .posted → p ≡ q
-posts-eq p q e f = λ i. record { records = e i; posted = f i }
 
 -- all on one channel are of one stream
 channel-stream : (a r : Message) → onChannel (r .owner) (r .channel) a ≡ true → streamOf a ≡ streamOf r
@@ -91,16 +86,6 @@ module _ (q : Posts) (m : ℕ) (r : Message) (F : Filed q) where
       (λ h. let T = table-moved (table q F) m (inside q F h) r in
       record { count = length-set (q .records) m r ∙ F .count; tidy = T .tidy; placed = T .placed; inStream = T .ordered })
       F
-
-  -- taken back at the old place it gives the old state
-  pub message-back : putMessageBack m (messageIn q m) (oldPlace m (items (q .posted))) (repost m r q) ≡ q
-  unfolding putMessageBack
-  message-back =
-      cases (ltb m 64)
-      (λ e. rw e
-      (posts-eq _ q (rw (moves q m r (ltb-true m 64 e), set-set) (set-getD (q .records) m noMessage))
-      (table-back (table q F) m (inside q F (ltb-true m 64 e)) (repost m r q .posted) (repost-order q m r))))
-      (λ e. rw e (repost-past q m r (ltb-false m 64 e)))
 
   module _ (h : m < 64) where
     -- a message that is queued comes last in its stream: the old run without it, then it

@@ -12,12 +12,12 @@ use borrow.Table.Steps.{cases}
 use Rattle.base_queue.specs.declared.Queue.{Queue}
 use Rattle.base_queue.specs.Lists.{keep, isNot, without, count, behind, Ordered}
 use Rattle.base_queue.specs.Queues.{items, pack, Tidy}
-use Rattle.base_queue.specs.Tables.{one, Placed, moved, oldPlace}
+use Rattle.base_queue.specs.Tables.{one, Placed, moved}
 use Rattle.base_queue.proofs.Queues.{items-pack, tidy-pack}
 use Rattle.base_queue.proofs.Counts.{same, kept, keep-same, keep-without, keep-past, count-without-same, count-without-other, not-without, pigeon, behind-last}
 use Rattle.base_queue.proofs.Orders.{ordered-keep, ordered-keys, keep-behind}
-use Rattle.base_queue.proofs.Tables.{placed-once, placed-past, placed-short, back-again, moved-placed, moved-ordered, keep-moved}
-use Rattle.spec_moves.specs.Moves.{hasRoom, rejoined, restored}
+use Rattle.base_queue.proofs.Tables.{placed-once, placed-past, placed-short, moved-placed, moved-ordered, keep-moved}
+use Rattle.spec_moves.specs.Moves.{hasRoom, rejoined}
 
 -- nobody stands twice and all are below n: once x, below n too, has left, fewer than n are there
 pub without-short : (n x : ℕ) (l : List ℕ) → ((u : ℕ) → count u l ≤ 1) → ((u : ℕ) → n ≤ u → count u l ≡ 0) → x < n → length (without x l) < n
@@ -71,12 +71,6 @@ module _ {A : Type 0} {d : A} {belongs : A → Bool} {key : A → ℕ} {records 
   room =
       let past = placed-past (said d belongs records) (items q) (length records) nobody (T .placed) in
       lt-ltb (length (without x (items q))) 64 (omega (arith, without-short (length records) x (items q) once past h))
-
-  -- x at its old place among the others in their old order: the queue is as it was
-  pub table-back : (m : Queue) → without x (items m) ≡ without x (items q) → restored (oldPlace x (items q)) x m ≡ q
-  table-back m w =
-      let short = placed-short (said d belongs records) (items q) (length records) nobody (T .placed) in
-      rw (w, room) (ap pack (back-again x (items q) (items m) w (once x) (omega arith)) ∙ T .tidy)
 
   -- x gets the record r
   module _ (r : A) where

@@ -12,7 +12,6 @@ use borrow.Table.Steps.{cases}
 use Rattle.base_queue.specs.declared.Queue.{Queue}
 use Rattle.base_queue.specs.Lists.{keep, isNot, without, behind}
 use Rattle.base_queue.specs.Queues.{items}
-use Rattle.base_queue.specs.Tables.{oldPlace}
 use Rattle.base_queue.proofs.Counts.{same}
 use Rattle.spec_kernel.specs.declared.records.Condition.{Condition}
 use Rattle.spec_kernel.specs.declared.records.Condition.the-variants.{Ready, Asleep, ForSemaphore, ForEvent, ForMessage}
@@ -21,9 +20,9 @@ use Rattle.spec_moves.specs.declared.parts.Threads.{Threads}
 use Rattle.spec_kernel.specs.Records.{noThread}
 use Rattle.spec_kernel.specs.Conditions.{isReady, readyFor}
 use Rattle.spec_kernel.specs.Places.{nowhere, homeFor, homeOf, hasHome, rankOf}
-use Rattle.spec_moves.specs.Moves.{rejoined, threadIn, ranksAfter, wakesAfter, relocate, putThreadBack}
+use Rattle.spec_moves.specs.Moves.{rejoined, threadIn, ranksAfter, wakesAfter, relocate}
 use Rattle.spec_moves.specs.Standing.{atHomeIn, Standing}
-use Rattle.spec_moves.proofs.Rejoined.{rejoined-keep, Table, table-back, table-stays, table-moved, table-leaves, table-joins, table-last}
+use Rattle.spec_moves.proofs.Rejoined.{rejoined-keep, Table, table-stays, table-moved, table-leaves, table-joins, table-last}
 
 -- ---- what a record says
 abbrev hasTime : Thread → Bool
@@ -66,10 +65,6 @@ low-home r e = go (r .live) (r .condition) e
 list-rank : (a r : Thread) → homeOf r ≡ r .priority → r .priority < 256 → homeOf a ≡ r .priority → rankOf a ≡ rankOf r
 unfolding rankOf
 list-rank a r e b z = let y = low-home a (omega arith) in omega arith
-
--- two are equal by their fields
-threads-eq : (p q : Threads) → p .records ≡ q .records → p .places ≡ q .places → p .time ≡ q .time → p ≡ q
-threads-eq p q e f g = λ i. record { records = e i; places = f i; time = g i }
 
 module _ (p : Threads) (t : ℕ) (r : Thread) where
   -- the time queue after the move
@@ -166,18 +161,6 @@ module _ (p : Threads) (t : ℕ) (r : Thread) (S : Standing p) where
   relocate-standing =
       either p t r Standing
       (λ h. standing (newThreads p t r) (length-set (p .records) t r ∙ S .count) (table-moved (places-table p S) t (inside p S h) r) (time-moved h)) S
-
-  -- taken back at the old places it gives the old state
-  pub thread-back : putThreadBack t (threadIn p t) (oldPlace t (items (p .places))) (oldPlace t (items (p .time))) (relocate t r p) ≡ p
-  unfolding putThreadBack
-  thread-back =
-      cases (ltb t 32)
-      (λ e. let h = inside p S (ltb-true t 32 e) in
-      rw e
-      (threads-eq _ p (rw (moves p t r (ltb-true t 32 e), set-set) (set-getD (p .records) t noThread))
-      (table-back (places-table p S) t h (relocate t r p .places) (relocate-order p t r))
-      (table-back (time-table p S) t h (relocate t r p .time) (relocate-time-order p t r))))
-      (λ e. rw e (relocate-past p t r (ltb-false t 32 e)))
 
   module _ (h : t < 32) where
     -- it joins its list or queue behind its equals

@@ -1,5 +1,4 @@
 -- The two moves that every call is made of: a thread gets a record and takes its places; a message likewise.
--- And their ways back: the old record, at the old places.
 use Prim.Native.Nat.{ℕ}
 use mathlib.Core.Bool.{Bool, cond, _&&_}
 use mathlib.Core.List.{List}
@@ -8,7 +7,7 @@ use lib.ListN.{length, getD, set}
 use Rattle.base_queue.specs.declared.Queue.{Queue}
 use Rattle.base_queue.specs.Lists.{without}
 use Rattle.base_queue.specs.Queues.{items, pack}
-use Rattle.base_queue.specs.Tables.{moved, putBack}
+use Rattle.base_queue.specs.Tables.{moved}
 use Rattle.spec_kernel.specs.declared.records.Thread.{Thread}
 use Rattle.spec_kernel.specs.declared.records.Message.{Message}
 use Rattle.spec_moves.specs.declared.parts.Threads.{Threads}
@@ -23,10 +22,6 @@ hasRoom x l = ltb (length (without x l)) 64
 -- x out of the queue, and where it stays behind its equals
 abbrev pub rejoined : Bool → (ℕ → Bool) → ℕ → Queue → Queue
 rejoined stays after x q = pack (moved (stays && hasRoom x (items q)) after x (items q))
-
--- x out of the queue, and back at place i; 255 is no place
-abbrev pub restored : ℕ → ℕ → Queue → Queue
-restored i x q = pack (putBack (cond (hasRoom x (items q)) i 255) x (items q))
 
 abbrev pub threadIn : Threads → ℕ → Thread
 threadIn p t = getD (p .records) t noThread
@@ -52,17 +47,6 @@ relocate t r p =
     })
     p
 
--- Thread t gets the record r back, at place i of `places` and at place j of the time queue.
-unfoldable pub putThreadBack : ℕ → Thread → ℕ → ℕ → Threads → Threads
-putThreadBack t r i j p =
-    cond (ltb t 32)
-    (record {
-      records = set (p .records) t r;
-      places = restored i t (p .places);
-      time = restored j t (p .time);
-    })
-    p
-
 abbrev pub postAfter : List Message → Message → ℕ → Bool
 postAfter records r u = ltb (streamOf r) (streamOf (getD records u noMessage))
 
@@ -73,15 +57,5 @@ repost m r p =
     (record {
       records = set (p .records) m r;
       posted = rejoined (isQueued r) (postAfter (p .records) r) m (p .posted);
-    })
-    p
-
--- Message m gets the record r back, at place i of `posted`.
-unfoldable pub putMessageBack : ℕ → Message → ℕ → Posts → Posts
-putMessageBack m r i p =
-    cond (ltb m 64)
-    (record {
-      records = set (p .records) m r;
-      posted = restored i m (p .posted);
     })
     p

@@ -15,91 +15,44 @@ use Rattle.spec_moves.specs.Moves.{relocate, repost}
 use Rattle.spec_kernel.specs.Runner.{chosen}
 use Rattle.spec_moves.specs.Standing.{threadsOf, postsOf}
 
-abbrev pub withThreads : Threads → Kernel → Kernel
-withThreads p k =
+-- the state made of its parts: threads and their places, semaphores, events and bits, messages and their places, and the scheduler's
+-- own values, which are uptime, the unscheduled and the critical level, and the runner
+abbrev pub stateOf : Threads → List Semaphore → List Event → ℕ → Posts → ℕ → ℕ → ℕ → ℕ → Kernel
+stateOf p semaphores events bits q uptime unscheduled critical runner =
     record {
       threads = p .records;
-      semaphores = k .semaphores;
-      events = k .events;
-      messages = k .messages;
+      semaphores = semaphores;
+      events = events;
+      messages = q .records;
       places = p .places;
       time = p .time;
-      posted = k .posted;
-      bits = k .bits;
-      uptime = k .uptime;
-      unscheduled = k .unscheduled;
-      critical = k .critical;
-      runner = k .runner;
-    }
-
-abbrev pub withPosts : Posts → Kernel → Kernel
-withPosts p k =
-    record {
-      threads = k .threads;
-      semaphores = k .semaphores;
-      events = k .events;
-      messages = p .records;
-      places = k .places;
-      time = k .time;
-      posted = p .posted;
-      bits = k .bits;
-      uptime = k .uptime;
-      unscheduled = k .unscheduled;
-      critical = k .critical;
-      runner = k .runner;
-    }
-
-abbrev pub withSemaphores : List Semaphore → Kernel → Kernel
-withSemaphores l k =
-    record {
-      threads = k .threads;
-      semaphores = l;
-      events = k .events;
-      messages = k .messages;
-      places = k .places;
-      time = k .time;
-      posted = k .posted;
-      bits = k .bits;
-      uptime = k .uptime;
-      unscheduled = k .unscheduled;
-      critical = k .critical;
-      runner = k .runner;
-    }
-
-abbrev pub withEvents : List Event → ℕ → Kernel → Kernel
-withEvents l bits k =
-    record {
-      threads = k .threads;
-      semaphores = k .semaphores;
-      events = l;
-      messages = k .messages;
-      places = k .places;
-      time = k .time;
-      posted = k .posted;
+      posted = q .posted;
       bits = bits;
-      uptime = k .uptime;
-      unscheduled = k .unscheduled;
-      critical = k .critical;
-      runner = k .runner;
-    }
-
--- uptime, the unscheduled and the critical level, the runner
-abbrev pub withScheduler : ℕ → ℕ → ℕ → ℕ → Kernel → Kernel
-withScheduler uptime unscheduled critical runner k =
-    record {
-      threads = k .threads;
-      semaphores = k .semaphores;
-      events = k .events;
-      messages = k .messages;
-      places = k .places;
-      time = k .time;
-      posted = k .posted;
-      bits = k .bits;
       uptime = uptime;
       unscheduled = unscheduled;
       critical = critical;
       runner = runner;
     }
+
+abbrev pub withThreads : Threads → Kernel → Kernel
+withThreads p k =
+    stateOf p (k .semaphores) (k .events) (k .bits) (postsOf k) (k .uptime) (k .unscheduled) (k .critical) (k .runner)
+
+abbrev pub withPosts : Posts → Kernel → Kernel
+withPosts q k =
+    stateOf (threadsOf k) (k .semaphores) (k .events) (k .bits) q (k .uptime) (k .unscheduled) (k .critical) (k .runner)
+
+abbrev pub withSemaphores : List Semaphore → Kernel → Kernel
+withSemaphores l k =
+    stateOf (threadsOf k) l (k .events) (k .bits) (postsOf k) (k .uptime) (k .unscheduled) (k .critical) (k .runner)
+
+abbrev pub withEvents : List Event → ℕ → Kernel → Kernel
+withEvents l bits k =
+    stateOf (threadsOf k) (k .semaphores) l bits (postsOf k) (k .uptime) (k .unscheduled) (k .critical) (k .runner)
+
+abbrev pub withScheduler : ℕ → ℕ → ℕ → ℕ → Kernel → Kernel
+withScheduler uptime unscheduled critical runner k =
+    stateOf (threadsOf k) (k .semaphores) (k .events) (k .bits) (postsOf k) uptime unscheduled critical runner
 
 abbrev pub withSemaphore : ℕ → Semaphore → Kernel → Kernel
 withSemaphore i r k = withSemaphores (set (k .semaphores) i r) k
@@ -139,6 +92,6 @@ asByte n = n % 256
 abbrev pub asWord : ℕ → ℕ
 asWord n = n % 65536
 
--- "With both levels at 0 the scheduler chooses."
+-- Outside every region the scheduler says who runs; inside one whoever ran goes on [01, calls: Regions 2].
 unfoldable pub scheduled : Kernel → Kernel
 scheduled k = withRunner (cond (eqb (k .unscheduled + k .critical) 0) (chosen k) (k .runner)) k

@@ -75,13 +75,3 @@ unfolding flagsOf bodyOf
 body-none none z = refl
 body-none (field {w} {o} {p} {ws} {os} {ps} h t) z =
     cases (eqb o p) (λ e. rw e (body-none t (omega (arith, rw e at z)))) (λ e. absurd (omega (arith, rw e at z)))
-
--- the flags of k fields lie below 2 ^ k
-pub flags-below : (k : ℕ) (os ps : List ℕ) → length os ≤ k → flagsOf os ps < 2 ^ k
-unfolding flagsOf
-flags-below k [] ps l = pow-pos k
-flags-below k (o ∷ os) [] l = pow-pos k
-flags-below zero (o ∷ os) (p ∷ ps) l = absurd (omega arith)
-flags-below (suc k) (o ∷ os) (p ∷ ps) l =
-    let r = flags-below k os ps (omega arith) in
-    rw pow-suc (cases (eqb o p) (λ e. rw e (omega arith)) (λ e. rw e (omega arith)))

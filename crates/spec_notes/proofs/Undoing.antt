@@ -1,4 +1,4 @@
--- An undo is accepted exactly if some state and call yield this end state and this note.
+-- An undo is accepted exactly where an earlier state and a call lead to this end state with this note [01, table: number 15].
 use Prim.Native.Nat.{ℕ, _+_, _-_, _≤_, _<_}
 use mathlib.Core.Path.{_≡_, sym, ap, _∙_}
 use mathlib.Core.Bool.{Bool, true, false, cond, and-true, and-eq-true-iff}
@@ -228,7 +228,7 @@ module _ (log : List ℕ) (used : ℕ) where
     unfolding undoes
     yields-undoes = rw yields-last (yields-undone k′ (lastNote log used) Y)
 
-  -- "15: no state and call yield this end state and this note"
+  -- There is something to undo exactly where an earlier state and a call yield k′ with the log's last note [01, table: number 15].
   pub undo-exactly : (k′ : Kernel) → Sized k′ → Rules k′ → Within k′ → Bytes log
       → (undoes k′ log used ≡ true) ↔ ((k : Kernel) × (bytes : List ℕ) × Yields k bytes k′ (lastNote log used))
   unfolding undoes

@@ -1,4 +1,4 @@
--- "This earlier state and call are unique": the end state and the note give them back.
+-- There is one earlier state and one call at most: the end state and the note give them back.
 use Prim.Native.Nat.{ℕ, _<_}
 use mathlib.Core.Path.{_≡_, sym, ap, _∙_}
 use mathlib.Core.List.{List}

@@ -173,7 +173,7 @@ before c k′ x =
       runner = getD (schedulerBefore c k′ (x .scheduler)) 2 0;
     }
 
--- "With both levels 0 the runner is the first ready one of the old state"; else the noted one
+-- Who ran: outside every region the first ready thread of the old state, inside one the noted thread [01, state 8].
 unfoldable pub stateBefore : Call → Kernel → Sections → Kernel
 stateBefore c k′ x =
     withRunner

@@ -13,7 +13,7 @@ abbrev pub countFrom : (ℕ → Bool) → ℕ → ℕ → ℕ
 countFrom f i zero = 0
 countFrom f i (suc n) = let r = countFrom f (suc i) n in one (f i) + r
 
--- "a queue place isn't part of a record": a message's channel is its place
+-- A message's record without its channel, which is its place and isn't counted [01, notes 4].
 abbrev pub messageFields : Message → List ℕ
 messageFields r = one (r .live) ∷ r .owner ∷ r .sender ∷ r .kind ∷ r .size ∷ r .address ∷ []
 
@@ -29,7 +29,7 @@ semaphoresDiffer k k′ = countFrom (λ i. not (sameSemaphore (semaphore k i) (s
 unfoldable pub messagesDiffer : Kernel → Kernel → ℕ
 messagesDiffer k k′ = countFrom (λ m. not (sameMessageRecord (message k m) (message k′ m))) 0 64
 
--- "Length is at most 96 + 24·T + 16·S + 16·M, with T, S and M the numbers of thread, semaphore and message records that differ
--- between the two states."
+-- The most bytes of a note: 96, and for each record that isn't the same in both states 24 more (a thread's) or 16 more (a semaphore's
+-- or a message's) [01, notes 4].
 unfoldable pub mostBytes : Kernel → Kernel → ℕ
 mostBytes k k′ = 96 + 24 * threadsDiffer k k′ + 16 * semaphoresDiffer k k′ + 16 * messagesDiffer k k′

@@ -10,7 +10,7 @@ use Rattle.spec_notes.specs.Sections.{schedulerSection, threadsSection, 
 abbrev pub section : List ℕ → List ℕ
 section bytes = le 2 (length bytes) ++ bytes
 
--- "the call record, then sections in a fixed order: scheduler, threads, semaphores, events, messages"
+-- A note but for its end: the call record, then the sections of scheduler, threads, semaphores, events and messages [01, notes 1].
 unfoldable pub beforeLength : Kernel → List ℕ → Kernel → List ℕ
 beforeLength k bytes k′ =
     bytes
@@ -19,6 +19,6 @@ beforeLength k bytes k′ =
     ++ (section (semaphoresSection k (callOf bytes) k′)
     ++ (section (eventsSection k (callOf bytes) k′) ++ section (messagesSection k (callOf bytes) k′)))))
 
--- "The last two bytes are the note's whole length."
+-- At its end a note has the length of all of it, in two bytes [01, notes 2].
 unfoldable pub noteOf : Kernel → List ℕ → Kernel → List ℕ
 noteOf k bytes k′ = beforeLength k bytes k′ ++ le 2 (length (beforeLength k bytes k′) + 2)

@@ -72,7 +72,7 @@ eventsSection k c k′ =
 unfoldable pub messagesSection : Kernel → Call → Kernel → List ℕ
 messagesSection k c k′ = entriesFrom (touchedMessage k c k′) (messageEntry k c k′) 0 64
 
--- "the old runner with both levels 0 is the first ready one of the old state": it is written only where a level was held
+-- Outside every region the first ready thread ran, which is found again; only inside one is the old runner written [01, state 8].
 abbrev pub heldRunner : Kernel → Kernel → ℕ
 heldRunner k k′ = cond (eqb (k .unscheduled + k .critical) 0) (k′ .runner) (k .runner)
 

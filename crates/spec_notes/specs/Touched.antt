@@ -36,7 +36,7 @@ sameMessage r s = sameRow (messageRow r 0) (messageRow s 0)
 abbrev pub oneTickMore : ℕ → ℕ
 oneTickMore n = cond (ltb n 4294967295) (n + 1) n
 
--- "Ageing is undone by computing": the record before, of the record after, where the call did not touch it
+-- A tick is computed back: the record before, of the record after, where the call did not touch it
 unfoldable pub youngerThread : Call → Thread → Thread
 youngerThread c r =
     record {

@@ -15,7 +15,7 @@ use Rattle.spec_effects.specs.Effects.{effect}
 use Rattle.spec_notes.specs.Notes.{noteOf}
 use Rattle.spec_notes.specs.Within.{Within}
 
--- "The last two bytes are the note's whole length."
+-- The length of the last note, read from the last two of the used bytes [01, notes 2].
 unfoldable pub lastLength : List ℕ → ℕ → ℕ
 lastLength log used = un 2 (drop (used - 2) log)
 

@@ -17,7 +17,7 @@ use Rattle.spec_notes.specs.Frames.{Decoded, nothing, sections, framesOf
 use Rattle.spec_notes.specs.Undo.{hasLast, lastNote}
 use Rattle.spec_notes.specs.Same.{sameKernel}
 
--- "the call record" stands first
+-- The call record is a note's first sixteen bytes [01, notes 1].
 unfoldable pub callBytes : List ℕ → List ℕ
 callBytes note = take 16 note
 

@@ -1,9 +1,9 @@
--- "Of several that apply, the first in table order is given": a number is given exactly where its condition holds and none before it does,
+-- The order of the table decides [01, answers 4]: a number is given exactly where its condition holds and none before it does,
 -- and a call is accepted exactly where no condition holds.
 use Prim.Native.Nat.{ℕ, zero, suc, _<_}
 use mathlib.Core.Path.{_≡_, refl, sym}
 use mathlib.Core.Bool.{Bool, true, false, not, _&&_, false≢true}
-use mathlib.Core.List.{List, [], _∷_}
+use mathlib.Core.List.{List, [], _∷_, map}
 use mathlib.Core.Logic.{_↔_}
 use native.Mathlib.Omega.{arith}
 use lib.Dec.{eqb}
@@ -83,6 +83,10 @@ gives-none ((n, true) ∷ l) f = absurd (false≢true (sym (f 0)))
 gives-none ((n, false) ∷ l) f = gives-none l (λ i. f (suc i))
 
 module _ (k : Kernel) (c : Call) where
+  -- the numbers stand in document 01's order [01, table]
+  pub numbers-in-order : map (λ t. t .0) (refusals k c) ≡ 1 ∷ 3 ∷ 2 ∷ 5 ∷ 4 ∷ 9 ∷ 8 ∷ 10 ∷ 12 ∷ 11 ∷ 6 ∷ 7 ∷ []
+  numbers-in-order = refl
+
   pub given-exactly : (i : ℕ) → i < 12
       → (numberOf k c ≡ getD (refusals k c) i (0, false) .0)
       ↔ ((getD (refusals k c) i (0, false) .1 ≡ true) × ((j : ℕ) → j < i → getD (refusals k c) j (0, false) .1 ≡ false))

@@ -35,20 +35,20 @@ noneRuns k = eqb (k .runner) 255
 abbrev pub inRegion : Kernel → Bool
 inRegion k = ltb 0 (k .unscheduled + k .critical)
 
--- 1 "unknown kind, or an unused field not 0"
+-- 1: no call has this kind, or a field that the kind doesn't use isn't 0 [01, table: number 1].
 unfoldable pub unknown : Call → Bool
 unknown c = not (isKnown c && unusedAreZero c)
 
--- 3 "interrupt kind while the critical level is above 0"
+-- 3: an interrupt's kind comes inside a critical region [01, table: number 3].
 unfoldable pub interruptsOff : Kernel → Call → Bool
 interruptsOff k c = fromInterrupt c && ltb 0 (k .critical)
 
--- 2 "thread kind while none runs"
+-- 2: nobody runs, and only the running thread may make this call [01, table: number 2].
 unfoldable pub noCaller : Kernel → Call → Bool
 noCaller k c = fromThread c && noneRuns k
 
--- 5 "priority outside 1..30; channel outside 1..15; kind 27's mask 0 or above 32,767; semaphore maximum outside
--- 1..65,535 or count above it; mode above 1; sleep, delay or period 0"
+-- 5: a priority not in 1..30, a channel not in 1..15, a mask not in 1..32,767, a maximum not in 1..65,535 or less than the count,
+-- a mode that is neither 0 nor 1, or 0 ticks for a sleep, a delay or a period [01, table: number 5].
 unfoldable pub badNumber : Call → Bool
 badNumber c =
     someOf
@@ -62,7 +62,7 @@ badNumber c =
     ∷ (is c 16 && (eqb (c .c) 0 || eqb (c .d) 0))
     ∷ [])
 
--- 4 "a named id isn't live or is too large; an event bit above 31"
+-- 4: a thread, semaphore or message named that isn't live (no id too large is), an event above 7, a bit above 31 [01, table: number 4].
 unfoldable pub badId : Kernel → Call → Bool
 badId k c =
     someOf
@@ -74,23 +74,23 @@ badId k c =
     ∷ (isOneOf c (25 ∷ 26 ∷ []) && not (message k (c .a) .live))
     ∷ [])
 
--- 9 "kind 25 or 26: the message is queued"
+-- 9: the message to destroy or post stands in a channel [01, table: number 9].
 unfoldable pub isInChannel : Kernel → Call → Bool
 isInChannel k c = isOneOf c (25 ∷ 26 ∷ []) && isQueued (message k (c .a))
 
--- 8 "kind 25 or 26: the caller isn't its owner"
+-- 8: the message to destroy or post belongs to another than the caller [01, table: number 8].
 unfoldable pub notOwner : Kernel → Call → Bool
 notOwner k c = isOneOf c (25 ∷ 26 ∷ []) && not (eqb (message k (c .a) .owner) (k .runner))
 
--- 10 "kind 15: threads wait on it"
+-- 10: the semaphore to destroy has waiters [01, table: number 10].
 unfoldable pub hasWaiters : Kernel → Call → Bool
 hasWaiters k c = is c 15 && not (isEmpty (semaphoreQueue k (c .a)))
 
--- 12 "kind 17: not periodic"
+-- 12: the semaphore whose period is to be removed has none [01, table: number 12].
 unfoldable pub notPeriodic : Kernel → Call → Bool
 notPeriodic k c = is c 17 && eqb (semaphore k (c .a) .period) 0
 
--- 11 "pop or pop all of a level at 0"
+-- 11: the level to pop, once or wholly, is 0 already [01, table: number 11].
 abbrev pub popsNothingAt : ℕ → ℕ → Call → Bool
 popsNothingAt unscheduled critical c =
     (isOneOf c (9 ∷ 10 ∷ []) && eqb unscheduled 0) || (isOneOf c (12 ∷ 13 ∷ []) && eqb critical 0)
@@ -98,7 +98,7 @@ popsNothingAt unscheduled critical c =
 unfoldable pub popsNothing : Kernel → Call → Bool
 popsNothing k c = popsNothingAt (k .unscheduled) (k .critical) c
 
--- the call would block, sleeps, yields or destroys the caller
+-- The caller stops or steps back: a pend that doesn't pass, a sleep, a yield, its own destruction [01, table: number 6].
 unfoldable pub stopsCaller : Kernel → Call → Bool
 stopsCaller k c =
     someOf
@@ -109,11 +109,11 @@ stopsCaller k c =
     ∷ (is c 3 && eqb (c .a) (k .runner))
     ∷ [])
 
--- 6 "a level is above 0, and the call would block, sleeps, yields or destroys the caller"
+-- 6: such a call inside a region, unscheduled or critical [01, table: number 6].
 unfoldable pub blocksInRegion : Kernel → Call → Bool
 blocksInRegion k c = inRegion k && stopsCaller k c
 
--- 7 "no free id; or push at level 255"
+-- 7: every id of what is to be created is taken, or the level to push is 255 already [01, table: number 7].
 unfoldable pub noneFree : Kernel → Call → Bool
 noneFree k c =
     someOf
@@ -141,7 +141,7 @@ refusals k c =
     ∷ (7, noneFree k c)
     ∷ []
 
--- "Of several that apply, the first in table order is given."
+-- The first in the list whose condition holds decides; 0 where none does [01, answers 4].
 abbrev pub firstThatApplies : List (ℕ × Bool) → ℕ
 firstThatApplies [] = 0
 firstThatApplies (t ∷ l) = let r = firstThatApplies l in cond (t .1) (t .0) r

@@ -42,7 +42,7 @@ module _ (k : Kernel) (c : Call) where
   unfolding pushCritical
   push-critical h = rw (lt-ltb (k .critical) 255 h) (levels-only k (k .unscheduled) (k .critical + 1))
 
-  -- "Pop takes off one level, pop all sets 0."
+  -- A pop leaves its level one lower, a pop all at 0; the other level stays [01, calls: Regions 1].
   pub pop-unscheduled : Levels (k .unscheduled - 1) (k .critical) k (popUnscheduled k c)
   unfolding popUnscheduled
   pop-unscheduled = levels-only k (k .unscheduled - 1) (k .critical)

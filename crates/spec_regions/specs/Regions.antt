@@ -1,4 +1,4 @@
--- Regions: "Pop takes off one level, pop all sets 0."
+-- Regions: a push makes its level one higher, a pop one lower, and a pop all 0 [01, calls: Regions 1].
 use Prim.Native.Nat.{ℕ, _+_, _-_}
 use mathlib.Core.Bool.{cond}
 use lib.Dec.{ltb}

@@ -1,4 +1,4 @@
--- The state rules of document 01, in its words and order: one definition for each, and the record that collects them.
+-- The state rules of document 01, in its terms and order: one definition for each, and the record that collects them.
 use Prim.Native.Nat.{ℕ, _+_, _≤_, _<_}
 use mathlib.Core.Path.{_≡_}
 use mathlib.Core.Bool.{true, false, _&&_}
@@ -29,13 +29,13 @@ pub record Sized (k : Kernel) : Type 0 where
   pub priorities : (t : ℕ) → thread k t .priority < 256
   pub channels : (m : ℕ) → message k m .channel < 256
 
--- "A live thread has one condition." It is one field of the record.
+-- That a thread has a single condition needs no rule: it is one field of the record [01, state 1.1].
 
--- "Ready: one place in its priority's list."
+-- A ready thread stands once in the list of its priority; nobody else stands there [01, state 1.2].
 unfoldable pub ReadyPlaces : Kernel → Type 0
 ReadyPlaces k = (t p : ℕ) → p ≤ 30 → count t (readyList k p) ≡ one (isReady (thread k t) && eqb (thread k t .priority) p)
 
--- "Waiting for a semaphore or event: one place in that live object's queue."
+-- Who waits for a semaphore or event stands once in its queue, and nobody else does; what is waited for is live [01, state 1.3].
 unfoldable pub SemaphorePlaces : Kernel → Type 0
 SemaphorePlaces k = (t i : ℕ) → i < 16 → count t (semaphoreQueue k i) ≡ one (waitsForSemaphore i (thread k t))
 
@@ -48,55 +48,55 @@ LiveSemaphores k = (t i : ℕ) → thread k t .condition ≡ ForSemaphore i → 
 unfoldable pub LiveEvents : Kernel → Type 0
 LiveEvents k = (t i : ℕ) → thread k t .condition ≡ ForEvent i → i < 8
 
--- "These queues, those of a record that isn't live too, hold no other places."
+-- Who isn't live, sleeps or waits for a message stands in no list and no such queue [01, state 1.4].
 unfoldable pub NoOtherPlaces : Kernel → Type 0
 NoOtherPlaces k = (t : ℕ) → hasHome (thread k t) ≡ false → count t (items (k .places)) ≡ 0
 
--- "Unused store of every queue, time queue and channels too, is 0."
+-- In each of the three tables the store behind the last place is 0 [01, state 1.5].
 unfoldable pub UnusedStore : Kernel → Type 0
 UnusedStore k = Tidy (k .places) × Tidy (k .time) × Tidy (k .posted)
 
--- "A sleeping thread, or a waiting one with timeout above 0, also has one place in the time queue, which holds no other places."
+-- Who sleeps, or waits and has ticks left, stands once in the time queue; nobody else stands there [01, state 2].
 unfoldable pub TimePlaces : Kernel → Type 0
 TimePlaces k = (t : ℕ) → count t (timeQueue k) ≡ one (isTimed (thread k t))
 
--- "A waiting queue is ordered by priority, then by arrival." Of every home: in a ready list the priorities are equal.
+-- Nobody waits before a higher priority; the moves keep the order of arrival. Of every home: a ready list has one priority [01, state 3.1].
 unfoldable pub WaitingOrder : Kernel → Type 0
 WaitingOrder k = (home : ℕ) → Ordered (λ t. thread k t .priority) (atHome k home)
 
--- "The time queue is ordered by ticks left, then by entry."
+-- In the time queue nobody stands before one with fewer ticks left; the moves keep the order of entry [01, state 3.2].
 unfoldable pub TimeOrder : Kernel → Type 0
 TimeOrder k = Ordered (λ t. thread k t .ticks) (timeQueue k)
 
--- "A semaphore with waiters has count 0."
+-- While anybody waits for a semaphore its count is 0 [01, state 4.1].
 unfoldable pub WaitersAtZero : Kernel → Type 0
 WaitersAtZero k = (i : ℕ) → i < 16 → (semaphoreQueue k i ≡ [] → ⊥) → semaphore k i .count ≡ 0
 
--- "A count is at most its maximum."
+-- No count is above its maximum [01, state 4.2].
 unfoldable pub CountsAtMost : Kernel → Type 0
 CountsAtMost k = (i : ℕ) → semaphore k i .count ≤ semaphore k i .maximum
 
--- "A TRUE event has no waiters."
+-- Nobody waits for an event that is TRUE [01, state 4.3].
 unfoldable pub TrueWithoutWaiters : Kernel → Type 0
 TrueWithoutWaiters k = (i : ℕ) → i < 8 → isTrue (k .bits) (event k i) ≡ true → eventQueue k i ≡ []
 
--- "A thread waiting for messages has none queued on its masked channels."
+-- On a channel that it waits for, a thread has no message [01, state 5].
 unfoldable pub NoneAwaited : Kernel → Type 0
 NoneAwaited k = (t c mask : ℕ) → thread k t .condition ≡ ForMessage mask → masks mask c ≡ true → channel k t c ≡ []
 
--- "Each live message has a live owner,"
+-- Whoever owns a live message is live [01, state 6.1].
 unfoldable pub LiveOwners : Kernel → Type 0
 LiveOwners k = (m : ℕ) → message k m .live ≡ true → thread k (message k m .owner) .live ≡ true
 
--- "and is either held by it, with no place in any channel, or queued with one place on one of its channels, oldest first."
+-- A queued message stands once, in the one channel of its owner that it is on, a held one in none; the moves keep the age [01, state 6.1].
 unfoldable pub ChannelPlaces : Kernel → Type 0
 ChannelPlaces k = (m t c : ℕ) → 0 < c → count m (channel k t c) ≡ one (isQueued (message k m) && onChannel t c (message k m))
 
--- "Channels, those of a thread that isn't live too, hold no other places."
+-- A message that is held, or isn't live, stands in nobody's channel [01, state 6.2].
 unfoldable pub NoOtherPosts : Kernel → Type 0
 NoOtherPosts k = (m : ℕ) → isQueued (message k m) ≡ false → count m (items (k .posted)) ≡ 0
 
--- "Every field lies in its size." Counts, times, types, sizes, addresses and levels have theirs from their types.
+-- The sizes [01, state 7.1; modelled 4]. Counts, times, types, sizes, addresses and levels have theirs from their types.
 unfoldable pub PrioritySizes : Kernel → Type 0
 PrioritySizes k =
     (t : ℕ) → thread k t .live ≡ true
@@ -114,14 +114,14 @@ MaximumSizes k = (i : ℕ) → semaphore k i .live ≡ true → 1 ≤ semaphore 
 unfoldable pub MessageSizes : Kernel → Type 0
 MessageSizes k = (m : ℕ) → (message k m .sender < 32) × (message k m .channel ≤ 15)
 
--- "Ticks left are above 0 for a thread in the time queue and a periodic semaphore."
+-- Who is timed has ticks left, and so has a periodic semaphore [01, state 7.2].
 unfoldable pub TicksLeft : Kernel → Type 0
 TicksLeft k = (t : ℕ) → isTimed (thread k t) ≡ true → 0 < thread k t .ticks
 
 unfoldable pub PeriodicTicks : Kernel → Type 0
 PeriodicTicks k = (i : ℕ) → 0 < semaphore k i .period → 0 < semaphore k i .ticks
 
--- "All fields of a record that isn't live are 0 (ready and none count as 0),"
+-- A record that isn't live is 0 throughout, ready and none being 0 too [01, state 7.3].
 unfoldable pub DeadThreads : Kernel → Type 0
 DeadThreads k = (t : ℕ) → thread k t .live ≡ false → thread k t ≡ noThread
 
@@ -131,18 +131,18 @@ DeadSemaphores k = (i : ℕ) → semaphore k i .live ≡ false → semaphore k i
 unfoldable pub DeadMessages : Kernel → Type 0
 DeadMessages k = (m : ℕ) → message k m .live ≡ false → message k m ≡ noMessage
 
--- "as are other threads' ticks left, and ticks and period of a semaphore that isn't periodic."
+-- Who isn't timed has no ticks left; nor has a semaphore whose period is 0, which isn't periodic [01, state 7.3].
 unfoldable pub OtherTicks : Kernel → Type 0
 OtherTicks k = (t : ℕ) → isTimed (thread k t) ≡ false → thread k t .ticks ≡ 0
 
 unfoldable pub UnperiodicTicks : Kernel → Type 0
 UnperiodicTicks k = (i : ℕ) → semaphore k i .period ≡ 0 → semaphore k i .ticks ≡ 0
 
--- "Levels both 0: the running thread is the first ready one, or none."
+-- Outside every region the first ready thread runs, or none where none is ready [01, state 8.1].
 unfoldable pub FirstRuns : Kernel → Type 0
 FirstRuns k = k .unscheduled + k .critical ≡ 0 → k .runner ≡ firstReady k
 
--- "A level above 0: some ready thread runs."
+-- Inside a region whoever runs is ready; it may be any ready thread [01, state 8.2].
 unfoldable pub SomeRuns : Kernel → Type 0
 SomeRuns k = 0 < k .unscheduled + k .critical → isReady (thread k (k .runner)) ≡ true
 

@@ -41,11 +41,11 @@ isNoSemaphore r = allOf (eqb (r .count) 0 ∷ eqb (r .maximum) 0 ∷ eqb (r .tic
 unfoldable pub isNoMessage : Message → Bool
 isNoMessage r = allOf (eqb (r .owner) 0 ∷ eqb (r .sender) 0 ∷ eqb (r .kind) 0 ∷ eqb (r .size) 0 ∷ eqb (r .address) 0 ∷ eqb (r .channel) 0 ∷ [])
 
--- "that live object", and "a semaphore with waiters has count 0"
+-- Semaphore i may have waiters: it is live and its count is 0 [01, state 1.3, 4.1].
 abbrev pub semaphoreWaited : List Semaphore → ℕ → Bool
 semaphoreWaited semaphores i = getD semaphores i noSemaphore .live && eqb (getD semaphores i noSemaphore .count) 0
 
--- "a TRUE event has no waiters"
+-- Event i may have waiters: its id is below 8 and it isn't TRUE [01, state 1.3, 4.3].
 abbrev pub eventWaited : List Event → ℕ → ℕ → Bool
 eventWaited events bits i = ltb i 8 && not (isTrue bits (getD events i noEvent))
 

@@ -24,7 +24,7 @@ make-semaphore : (k : Kernel) (i : ℕ) (r : Semaphore) → i < length (k .semap
 make-semaphore k i r b = record { made = getD-set-same (k .semaphores) i r noSemaphore b; only = semaphore-only k i r }
 
 module _ (k : Kernel) (c : Call) where
-  -- "create semaphore, count b, maximum c": the lowest free id, all fields new
+  -- kind 14 makes the lowest free id, with the count and maximum it says and all else new [01, modelled 5].
   pub create-makes : freeSemaphore k < length (k .semaphores) → c .c < 65536
       → MadeSemaphore (freeSemaphore k) (record { live = true; count = c .b; maximum = c .c; ticks = 0; period = 0 }) k (createSemaphore k c)
   unfolding createSemaphore
@@ -35,7 +35,7 @@ module _ (k : Kernel) (c : Call) where
     unfolding destroySemaphore
     destroy-clears = make-semaphore k (c .a) noSemaphore b
 
-    -- "Make, on a periodic semaphore too, replaces delay and period."
+    -- The delay and the period given take the place of those that it has, if any [01, calls: Periodic 1].
     pub make-replaces : MadeSemaphore (c .a) (pulsing (c .c) (c .d) (semaphore k (c .a))) k (makePeriodic k c)
     unfolding makePeriodic
     make-replaces = make-semaphore k (c .a) (pulsing (c .c) (c .d) (semaphore k (c .a))) b

@@ -40,7 +40,7 @@ module _ (k : Kernel) (i : ℕ) (r : Semaphore) where
   }
 
 module _ (k : Kernel) (i : ℕ) where
-  -- ---- "Post wakes the first waiter and leaves the count"
+  -- ---- Whoever waits first wakes at a post, and the count stays [01, calls: Semaphore 2].
   module _ (t : ℕ) (l : List ℕ) (waits : semaphoreQueue k i ≡ t ∷ l) where
     post-first : post i k ≡ wake Wake.Met t k
     unfolding post
@@ -63,7 +63,7 @@ module _ (k : Kernel) (i : ℕ) where
           post-wakes .queues (semaphoreHome i) (λ z. omega arith)
           ∙ rw waits (without-first t l (rw waits at (line-once S t (semaphoreHome i))))
 
-  -- ---- "without waiters it adds one, up to the maximum; at the maximum it is accepted and adds nothing"
+  -- ---- With nobody waiting a post raises the count by one, but at the maximum it changes nothing [01, calls: Semaphore 2].
   module _ (none : semaphoreQueue k i ≡ []) where
     post-raises : post i k ≡ withSemaphore i (raised (semaphore k i)) k
     unfolding post
@@ -80,7 +80,7 @@ module _ (k : Kernel) (i : ℕ) where
       post-full h = rw post-raises (semaphore-same k i (raised (semaphore k i)) b ∙ rw (le-ltb (semaphore k i .count) (semaphore k i .maximum) h))
 
 module _ (k : Kernel) (c : Call) where
-  -- ---- "Pend with count above 0 takes one off"
+  -- ---- A pend lowers a count that isn't 0 by one [01, calls: Semaphore 1].
   module _ (some : 0 < semaphore k (c .a) .count) where
     pend-lowers : pendSemaphore k c ≡ withSemaphore (c .a) (counted (semaphore k (c .a) .count - 1) (semaphore k (c .a))) k
     unfolding pendSemaphore
@@ -93,7 +93,7 @@ module _ (k : Kernel) (c : Call) where
     pub pend-only : OnlySemaphore (c .a) k (pendSemaphore k c)
     pend-only = rw pend-lowers (semaphore-only k (c .a) (counted (semaphore k (c .a) .count - 1) (semaphore k (c .a))))
 
-  -- ---- "else it blocks"
+  -- ---- At count 0 it blocks [01, calls: Semaphore 1].
   module _ (none : semaphore k (c .a) .count ≡ 0) where
     -- the caller waits behind its equals in the semaphore's queue
     pub pend-blocks : Standing (threadsOf k) → Runnable (thread k (k .runner))

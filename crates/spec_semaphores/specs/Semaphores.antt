@@ -29,7 +29,7 @@ createSemaphore k c =
 unfoldable pub destroySemaphore : Kernel → Call → Kernel
 destroySemaphore k c = withSemaphore (c .a) noSemaphore k
 
--- kind 16: "Make, on a periodic semaphore too, replaces delay and period."
+-- kind 16: delay c and period d take the place of those that the semaphore has, if any [01, calls: Periodic 1].
 unfoldable pub makePeriodic : Kernel → Call → Kernel
 makePeriodic k c = withSemaphore (c .a) (withTicks (c .c) (c .d) (semaphore k (c .a))) k
 
@@ -37,14 +37,14 @@ makePeriodic k c = withSemaphore (c .a) (withTicks (c .c) (c .d) (semaphore k (c
 unfoldable pub removePeriodic : Kernel → Call → Kernel
 removePeriodic k c = withSemaphore (c .a) (withTicks 0 0 (semaphore k (c .a))) k
 
--- kind 18: "Pend with count above 0 takes one off; else it blocks."
+-- kind 18: the count goes down by one, or the caller blocks where it is 0 [01, calls: Semaphore 1].
 unfoldable pub pendSemaphore : Kernel → Call → Kernel
 pendSemaphore k c =
     cond (ltb 0 (semaphore k (c .a) .count))
     (withSemaphore (c .a) (withCount (semaphore k (c .a) .count - 1) (semaphore k (c .a))) k)
     (block (ForSemaphore (c .a)) (c .c) k)
 
--- "adds one, up to the maximum; at the maximum it is accepted and adds nothing"
+-- One more, but not past the maximum: there the count stays [01, calls: Semaphore 2].
 abbrev pub raised : Semaphore → Semaphore
 raised r = withCount (cond (ltb (r .count) (r .maximum)) (r .count + 1) (r .count)) r
 
@@ -52,7 +52,7 @@ abbrev pub postTo : List ℕ → ℕ → Kernel → Kernel
 postTo [] i k = withSemaphore i (raised (semaphore k i)) k
 postTo (t ∷ l) i k = wake Wake.Met t k
 
--- "Post wakes the first waiter and leaves the count; without waiters it adds one, up to the maximum."
+-- Whoever waits first wakes and the count stays; with nobody waiting the count goes up, but not past the maximum [01, calls: Semaphore 2].
 unfoldable pub post : ℕ → Kernel → Kernel
 post i k = postTo (semaphoreQueue k i) i k
 

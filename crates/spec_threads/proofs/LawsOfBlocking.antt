@@ -28,15 +28,15 @@ isLater k ticks u = ltb ticks (thread k u .ticks)
 
 -- The caller t of k has stopped in k′: it joins the queue of home h, or none where h is nowhere.
 pub record Blocked (condition : Condition) (timeout h t : ℕ) (k k′ : Kernel) : Type 0 where
-  -- "The thread leaves the ready list and joins its queue behind equal priorities."
+  -- It is out of its ready list, and in its queue before those of a lower priority, behind all others [01, calls: Blocking 1].
   pub left : readyList k′ (thread k t .priority) ≡ without t (readyList k (thread k t .priority))
   pub joined : (h ≡ nowhere → ⊥) → atHome k′ h ≡ behind (isLower k t) t (atHome k h)
   -- every other list and queue is as it was
   pub lists : (n : ℕ) → (n ≡ readyHome (thread k t .priority) → ⊥) → (n ≡ h → ⊥) → atHome k′ n ≡ atHome k n
-  -- "Timeout 0 waits for ever": the time queue stays; else it joins behind those that wake before it
+  -- With timeout 0 the time queue stays; else it joins there before those with more ticks left, behind all others [01, calls: Blocking 2].
   pub forever : timeout ≡ 0 → timeQueue k′ ≡ timeQueue k
   pub timed : 0 < timeout → timeQueue k′ ≡ behind (isLater k timeout) t (timeQueue k)
-  -- "one that blocks or sleeps, has wake reason none and reply 255"
+  -- Its wake reason is none now and its reply 255; nobody else's record changes [01, calls: Blocking 5].
   pub itself : thread k′ t ≡ stopped condition timeout (thread k t)
   pub others : OtherThreads t k k′
 

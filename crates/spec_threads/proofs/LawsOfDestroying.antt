@@ -26,12 +26,12 @@ use Rattle.spec_threads.proofs.LawsOfHomes.{posted-live, time-left}
 
 -- Thread a of k is gone in k′.
 pub record Destroyed (a : ℕ) (k k′ : Kernel) : Type 0 where
-  -- "Destroy removes a thread from every queue": the others keep their order
+  -- it stands in no list or queue any more, and the others keep their order [01, calls: Threads 3]
   pub lists : (h : ℕ) → h < nowhere → atHome k′ h ≡ without a (atHome k h)
   pub time : timeQueue k′ ≡ without a (timeQueue k)
   pub itself : thread k′ a ≡ noThread
   pub others : OtherThreads a k k′
-  -- "and frees every message it owns": it owns none, and its channels are empty
+  -- its messages are freed: it owns none, and its channels are empty [01, calls: Threads 3]
   pub freed : (m : ℕ) → message k m .live ≡ true → message k m .owner ≡ a → message k′ m ≡ noMessage
   pub owned : (m : ℕ) → message k′ m .live ≡ true → message k′ m .owner ≡ a → ⊥
   pub channels : (c : ℕ) → channel k′ a c ≡ []

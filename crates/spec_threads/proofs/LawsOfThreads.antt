@@ -27,7 +27,7 @@ use Rattle.spec_kernel.specs.WordsOfLaws.{Runnable, prioritized, newborn, OnlyT
 use Rattle.spec_threads.proofs.LawsOfHomes.{place-only, live-home, ready-live, live-id, line-without, line-nowhere, time-stays, line-joins}
 
 -- ---- who runs
--- "A preempted thread keeps its place": to choose moves nobody
+-- To choose moves nobody: a preempted thread stands where it stood [01, calls: Blocking 4].
 pub scheduled-only : (k : Kernel) → OnlyRunner k (scheduled k)
 unfolding scheduled
 scheduled-only k = record {
@@ -48,14 +48,14 @@ scheduled-region k b = rw (ne-eqb (k .unscheduled + k .critical) 0 (λ z. omega 
 -- ---- create
 -- Thread t is new in k′, with this priority.
 pub record Created (priority t : ℕ) (k k′ : Kernel) : Type 0 where
-  -- "A create takes the lowest free id."
+  -- its id was free, and every lower one taken [01, modelled 5]
   pub free : thread k t .live ≡ false
   pub lowest : (u : ℕ) → u < t → thread k u .live ≡ true
-  -- it stands last in its list, and "A preempted thread keeps its place": every other list and queue is as it was
+  -- it stands last in its list; every other list and queue is as it was, and so whoever it preempts [01, calls: Blocking 4]
   pub last : readyList k′ priority ≡ readyList k priority ++ t ∷ []
   pub lists : (h : ℕ) → (h ≡ readyHome priority → ⊥) → atHome k′ h ≡ atHome k h
   pub time : timeQueue k′ ≡ timeQueue k
-  -- "A new thread .. has wake reason none and reply 255"; nobody else's record changes
+  -- its wake reason is none and its reply 255; nobody else's record changes [01, calls: Blocking 5]
   pub itself : thread k′ t ≡ newborn priority
   pub others : OtherThreads t k k′
 
@@ -126,8 +126,8 @@ module _ (k : Kernel) (c : Call) where
       }
 
 -- ---- priorities
--- Thread a has the priority `new` in k′. "Set or reset priority puts a ready thread last in its new list and a waiter behind
--- equals, even where the priority is the same."
+-- Thread a has the priority `new` in k′, and stands behind all that have it too, in a ready list or in its queue; the same
+-- where it had this priority before [01, calls: Threads 2].
 pub record Reprioritized (new a : ℕ) (k k′ : Kernel) : Type 0 where
   -- a ready thread is last in its new list and out of its old one, where the others keep their order
   pub last : isReady (thread k a) ≡ true → readyList k′ new ≡ without a (readyList k new) ++ a ∷ []
@@ -185,7 +185,7 @@ module _ (k : Kernel) (c : Call) where
     unfolding setPriority
     set-priority-sets b = rw (mod-eq-of-lt b) (reprioritized k S (c .a) (c .b) l b)
 
-    -- "reset uses the first priority"
+    -- to reset is to set the first priority again [01, calls: Threads 2]
     pub reset-priority-sets : thread k (c .a) .first < 256 → Reprioritized (thread k (c .a) .first) (c .a) k (resetPriority k c)
     unfolding resetPriority
     reset-priority-sets b = reprioritized k S (c .a) (thread k (c .a) .first) l b

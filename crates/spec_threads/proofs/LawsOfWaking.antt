@@ -31,7 +31,7 @@ use Rattle.spec_threads.proofs.LawsOfHomes.{place-only, stopped-home, l
 pub record Woken (why : Wake) (reply t : ℕ) (k k′ : Kernel) : Type 0 where
   -- it stands last in its priority's list, where it did not stand before
   pub last : readyList k′ (thread k t .priority) ≡ readyList k (thread k t .priority) ++ t ∷ []
-  -- "A preempted thread keeps its place": every other ready list is as it was
+  -- every other ready list is as it was: whoever it preempts stands where it stood [01, calls: Blocking 4]
   pub lists : (p : ℕ) → p < 256 → (p ≡ thread k t .priority → ⊥) → readyList k′ p ≡ readyList k p
   -- it is out of every queue, and the others keep their order there
   pub queues : (h : ℕ) → (h ≡ readyHome (thread k t .priority) → ⊥) → atHome k′ h ≡ without t (atHome k h)
@@ -80,7 +80,7 @@ module _ (k : Kernel) (S : Standing (threadsOf k)) (t : ℕ) (W : Stopped (threa
     others = λ u ne. relocate-other (threadsOf k) t (readied why reply (thread k t)) ne;
   }
 
-  -- "Waking takes it out of every queue and puts it last in its priority's list."
+  -- Who wakes is in no queue any more, and last in the list of its priority [01, calls: Blocking 3].
   pub wake-wakes : Woken why (thread k t .reply) t k (wake why t k)
   unfolding wake
   wake-wakes = move-wakes (thread k t .reply) k

@@ -16,12 +16,12 @@ use Rattle.spec_kernel.specs.Free.{freeThread}
 use Rattle.spec_calls.specs.declared.call.Call.{Call}
 use Rattle.spec_moves.specs.States.{withPosts, moveThread, asByte}
 
--- "A new thread .. has wake reason none and reply 255."
+-- A new thread's record: ready, this priority its first one too, wake reason none, reply 255 [01, calls: Blocking 5].
 abbrev pub born : ℕ → Thread
 born priority =
     record { live = true; priority = priority; first = priority; condition = Ready; ticks = 0; wake = Wake.None; reply = 255 }
 
--- "one that blocks or sleeps, has wake reason none and reply 255"
+-- The record of one that blocks or sleeps: its timeout as ticks left, wake reason none, reply 255 [01, calls: Blocking 5].
 abbrev pub blocked : Condition → ℕ → Thread → Thread
 blocked condition timeout r =
     record {
@@ -34,7 +34,7 @@ blocked condition timeout r =
       reply = 255;
     }
 
--- "waking sets the reason, and the reply where a message came; nothing else changes them"
+-- The record of one that wakes: ready, without ticks left, and with the reason and the reply that the wake gives [01, calls: Blocking 5].
 abbrev pub awake : Wake → ℕ → Thread → Thread
 awake why reply r =
     record {
@@ -59,11 +59,11 @@ withPriority priority r =
       reply = r .reply;
     }
 
--- "The thread leaves the ready list and joins its queue behind equal priorities. Timeout 0 waits for ever."
+-- The caller stops: out of its ready list, into its queue behind its equals; with timeout 0 it isn't timed [01, calls: Blocking 1, 2].
 unfoldable pub block : Condition → ℕ → Kernel → Kernel
 block condition timeout k = moveThread (k .runner) (blocked condition timeout (thread k (k .runner))) k
 
--- "Waking takes it out of every queue and puts it last in its priority's list."
+-- Thread t wakes: out of its queues and last in the list of its priority; no message came, so its reply stays [01, calls: Blocking 3, 5].
 unfoldable pub wake : Wake → ℕ → Kernel → Kernel
 wake why t k = moveThread t (awake why (thread k t .reply) (thread k t)) k
 
@@ -71,7 +71,7 @@ wake why t k = moveThread t (awake why (thread k t .reply) (thread k t)) k
 unfoldable pub createThread : Kernel → Call → Kernel
 createThread k c = moveThread (freeThread k) (born (c .a)) k
 
--- "frees every message it owns"
+-- All that thread t owns is freed, held or queued [01, calls: Threads 3].
 abbrev pub owns : ℕ → Message → Bool
 owns t r = r .live && eqb (r .owner) t
 
@@ -87,19 +87,19 @@ freeMessages t k =
     })
     k
 
--- kind 3: "Destroy removes a thread from every queue and frees every message it owns."
+-- kind 3: thread a leaves its list and every queue, and its messages are freed [01, calls: Threads 3].
 unfoldable pub destroyThread : Kernel → Call → Kernel
 destroyThread k c = moveThread (c .a) noThread (freeMessages (c .a) k)
 
--- kinds 4 and 5: "Set or reset priority puts a ready thread last in its new list and a waiter behind equals, even where
--- the priority is the same; reset uses the first priority."
+-- kinds 4 and 5: thread a gets priority b, or its first one again, and stands behind all that have it too, in a ready list or
+-- in its queue; the same where it had this priority before [01, calls: Threads 2].
 unfoldable pub setPriority : Kernel → Call → Kernel
 setPriority k c = moveThread (c .a) (withPriority (asByte (c .b)) (thread k (c .a))) k
 
 unfoldable pub resetPriority : Kernel → Call → Kernel
 resetPriority k c = moveThread (c .a) (withPriority (thread k (c .a) .first) (thread k (c .a))) k
 
--- kind 6: "Yield puts the caller last in its list."
+-- kind 6: the caller goes behind all others of its priority [01, calls: Threads 1].
 unfoldable pub yielded : Kernel → Call → Kernel
 yielded k c = moveThread (k .runner) (thread k (k .runner)) k
 

@@ -37,7 +37,7 @@ use Rattle.spec_semaphores.proofs.LawsOfSemaphores.{semaphore-same, semaphore-o
 abbrev pub isDue : Kernel → ℕ → Bool
 isDue k t = eqb (thread k t .ticks) 1
 
--- "a sleeper as met, a waiter as timed out", with its object kind
+-- The reason of one whose time is up: met for a sleeper, timed out for a waiter, with its object kind [01, calls: Tick 2].
 abbrev pub timeoutOf : Condition → Wake
 timeoutOf Ready = Wake.Met
 timeoutOf Asleep = Wake.Met
@@ -47,9 +47,9 @@ timeoutOf (ForMessage mask) = Wake.TimedOut Object.Message
 
 -- A tick of k has passed for the threads of k′.
 pub record TimePassed (k k′ : Kernel) : Type 0 where
-  -- each timed thread loses a tick, and nothing else of it changes
+  -- who has more than one tick left loses one, and nothing else of it changes
   pub counts : (t : ℕ) → 1 < thread k t .ticks → thread k′ t ≡ ticking (thread k t .ticks - 1) (thread k t)
-  -- those at 0 wake
+  -- who had one left wakes
   pub wakes : (t : ℕ) → thread k t .ticks ≡ 1 → thread k′ t ≡ readied (timeoutOf (thread k t .condition)) (thread k t .reply) (thread k t)
   -- nobody else's record changes
   pub others : (t : ℕ) → thread k t .ticks ≡ 0 → thread k′ t ≡ thread k t
@@ -115,7 +115,7 @@ module _ (k : Kernel) (S : Standing (threadsOf k)) (T : (t : ℕ) → 0 < thread
   unfolding timePasses ageAll
   aged-time = refl
 
-  -- "Each timed thread loses a tick; those at 0 wake in time queue order, a sleeper as met, a waiter as timed out."
+  -- Whoever is timed has a tick less; who has none left then wakes, in time queue order [01, calls: Tick 2].
   pub time-passes : TimePassed k after
   unfolding due
   time-passes = record {
@@ -127,7 +127,7 @@ module _ (k : Kernel) (S : Standing (threadsOf k)) (T : (t : ℕ) → 0 < thread
     time = aged-time ∙ all-woken .time ∙ due-left (timeQueue k);
   }
 
--- ---- "Then each periodic semaphore in id order loses a tick, and at 0 is posted and set to its period."
+-- ---- Then the periodic semaphores by id: a tick less, and with the last one a post and a new period [01, calls: Tick 3].
 -- a post leaves as many semaphores
 post-length : (i : ℕ) (k : Kernel) → length (post i k .semaphores) ≡ length (k .semaphores)
 unfolding post wake
@@ -204,7 +204,7 @@ module _ {A : Type 0} (g : Kernel → A) (threads : (p : Threads) (k : Kernel) �
   tick-hides k c = pulses-hide 0 16 _ ∙ threads _ _
 
 module _ (k : Kernel) (c : Call) where
-  -- "Uptime goes up by one and wraps to 0."
+  -- One tick more of uptime; after 4,294,967,295 comes 0 [01, calls: Tick 1].
   pub tick-uptime : k .uptime < 4294967295 → tick k c .uptime ≡ k .uptime + 1
   tick-uptime b = tick-hides (λ s. s .uptime) (λ _ _. refl) (λ _ _. refl) k c ∙ rw (ne-eqb (k .uptime) 4294967295 (λ z. omega arith))
 

@@ -20,11 +20,11 @@ use Rattle.spec_moves.specs.States.{withThreads, withSemaphore, withUptime, eac
 use Rattle.spec_threads.specs.Threads.{awake}
 use Rattle.spec_semaphores.specs.Semaphores.{withTicks, post}
 
--- "Uptime goes up by one and wraps to 0."
+-- The uptime one tick later; after 4,294,967,295 comes 0 [01, calls: Tick 1].
 abbrev pub later : ℕ → ℕ
 later uptime = cond (eqb uptime 4294967295) 0 (uptime + 1)
 
--- "a sleeper as met, a waiter as timed out", with its object kind
+-- The reason of one whose time is up: met for a sleeper, timed out for a waiter, with its object kind [01, calls: Tick 2].
 abbrev pub reasonAt : Condition → Wake
 reasonAt Ready = Wake.Met
 reasonAt Asleep = Wake.Met
@@ -54,11 +54,11 @@ aged r =
 unfoldable pub ageAll : Threads → Threads
 ageAll p = record { records = map aged (p .records); places = p .places; time = p .time }
 
--- "Each timed thread loses a tick; those at 0 wake in time queue order." Those that would come to 0 wake first.
+-- Whose last tick this is wakes first, in time queue order; then all that still have ticks left lose one [01, calls: Tick 2].
 unfoldable pub timePasses : Threads → Threads
 timePasses p = ageAll (each timeUp (due p) p)
 
--- "each periodic semaphore .. loses a tick, and at 0 is posted and set to its period"
+-- Semaphore i, where it is periodic, has a tick less; with its last one it is posted and its period begins again [01, calls: Tick 3].
 unfoldable pub pulse : ℕ → Kernel → Kernel
 pulse i k =
     cond (eqb (semaphore k i .period) 0) k

@@ -15,7 +15,7 @@ outcome number right = record { number = number; right = right }
 abbrev pub more : ℕ → ℕ
 more n = (n + 1) % 2 ^ 64
 
--- "one more wrong, unless this holds"
+-- one more is wrong, unless this holds
 unfoldable pub checkedBy : Tally → Bool → Tally
 checkedBy t holds = cond holds t (tally (t .broken) (t .refused) (t .accepted) (more (t .wrong)))
 

@@ -25,8 +25,8 @@ slice-aggregate-put-undo c = search needs
 put-undo-requires : tie.Need-put-undo-requires Inv-loop μ-loop
 put-undo-requires c κs = search needs
 
-slice-aggregate-front : tie.Need-slice-aggregate-front Inv-loop μ-loop
-slice-aggregate-front c = search needs
+slice-aggregate-up-to : tie.Need-slice-aggregate-up-to Inv-loop μ-loop
+slice-aggregate-up-to c = search needs
 
 up-to-requires : tie.Need-up-to-requires Inv-loop μ-loop
 up-to-requires c κs = search needs
@@ -60,7 +60,7 @@ backwards-spec =
     returns
     slice-aggregate-put-undo
     put-undo-requires
-    slice-aggregate-front
+    slice-aggregate-up-to
     up-to-requires
     write-all-requires
     undo-requires-2

@@ -54,8 +54,8 @@ loop-less c = search needs
 loop-again : tie.Need-loop-again Inv-loop μ-loop
 loop-again c = search needs
 
-slice-aggregate-front : tie.Need-slice-aggregate-front Inv-loop μ-loop
-slice-aggregate-front c = search needs
+slice-aggregate-up-to : tie.Need-slice-aggregate-up-to Inv-loop μ-loop
+slice-aggregate-up-to c = search needs
 
 up-to-requires : tie.Need-up-to-requires Inv-loop μ-loop
 up-to-requires c κs = search needs
@@ -89,7 +89,7 @@ forward-spec =
     add-at
     loop-less
     loop-again
-    slice-aggregate-front
+    slice-aggregate-up-to
     up-to-requires
     write-all-requires
     same-length

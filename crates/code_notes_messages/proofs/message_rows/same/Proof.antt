@@ -1,7 +1,7 @@
 -- `code_notes_messages::message_rows::same` meets its contract: nothing of the one row is flagged beside the other.
 use mathlib.Core.Path.{refl}
 use Rattle.spec_notes.specs.Touched.{sameMessage}
-use Rattle.code_notes_entries.proofs.Fields.{same-flags}
+use Rattle.code_notes_entries.proofs.RowFields.{same-flags}
 use borrow.Author.Needs.{needs}
 use Rattle.code_notes_messages.proofs.message_rows.same.Statement.{statement}
 use Rattle.code_notes_messages.proofs.message_rows.same.Tie as tie

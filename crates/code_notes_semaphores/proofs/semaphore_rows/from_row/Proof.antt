@@ -1,6 +1,6 @@
 -- `code_notes_semaphores::semaphore_rows::from_row` meets its contract: each field is cut to its width.
 use Rattle.spec_notes.specs.Rows.{semaphoreWidths, semaphoreFrom}
-use Rattle.code_notes_entries.proofs.Fields.{fitted-at}
+use Rattle.code_notes_entries.proofs.RowFields.{fitted-at}
 use borrow.Author.Needs.{needs}
 use Rattle.code_notes_semaphores.proofs.semaphore_rows.from_row.Statement.{statement}
 use Rattle.code_notes_semaphores.proofs.semaphore_rows.from_row.Tie as tie

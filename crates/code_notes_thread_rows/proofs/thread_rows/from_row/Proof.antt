@@ -1,7 +1,7 @@
 -- `code_notes_thread_rows::thread_rows::from_row` meets its contract: each field as far as its width goes.
 use borrow.Author.Needs.{needs}
 use Rattle.spec_notes.specs.Rows.{threadFrom, threadWidths}
-use Rattle.code_notes_entries.proofs.Fields.{fitted-at}
+use Rattle.code_notes_entries.proofs.RowFields.{fitted-at}
 use Rattle.code_notes_thread_rows.proofs.thread_rows.from_row.Statement.{statement}
 use Rattle.code_notes_thread_rows.proofs.thread_rows.from_row.Tie as tie
 

@@ -8,7 +8,7 @@ use borrow.Author.Tests.{eq-eqb, ne-eqb}
 use Rattle.spec_kernel.specs.declared.records.Thread.{Thread}
 use Rattle.spec_notes.specs.Rows.{threadRow}
 use Rattle.spec_notes.specs.Touched.{sameThread}
-use Rattle.code_notes_entries.proofs.Fields.{row-other}
+use Rattle.code_notes_entries.proofs.RowFields.{row-other}
 use Rattle.code_notes_thread_rows.proofs.thread_rows.same.Statement.{statement}
 use Rattle.code_notes_thread_rows.proofs.thread_rows.same.Tie as tie
 
