@@ -1,10 +1,10 @@
 // Both ways: records from standard input to its end, a line each, with all notes in one log; then every note undone, a line
 // each, the uptime, and whether the state is the fresh one again.
-use spec_answers::Answer;
 use base_bytes::pens;
-use spec_kernel::records::Kernel;
 use code_notes_back::last;
 use replay::undos;
+use spec_answers::Answer;
+use spec_kernel::records::Kernel;
 
 // Where a run stands: its state, how much of the log is used, and the records seen so far.
 struct Run {

@@ -1,7 +1,7 @@
 // Document 01's printed replay: records from standard input to its end, a line each, then the uptime.
+use code_notes_back::last;
 use spec_answers::Answer;
 use spec_kernel::records::Kernel;
-use code_notes_back::last;
 
 // Where a run stands: its state, and the records seen so far.
 struct Run {

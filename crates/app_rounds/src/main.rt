@@ -1,8 +1,8 @@
 // A program for timing: at most 4,096 records from standard input, run 256 times, each time from fresh with an empty log, and
 // no line for a call. It prints how many records a round has, and of all rounds the accepted calls and the bytes of their notes.
 use code_kernel::records;
-use spec_kernel::records::Kernel;
 use code_notes_back::last;
+use spec_kernel::records::Kernel;
 
 // The accepted calls and the bytes of their notes, of one round or of all so far.
 struct Total {

@@ -3,7 +3,8 @@
 use mathlib.Core.Path.{_≡_, refl, sym, ap, _∙_}
 use mathlib.Core.Bool.{true, false, or-true, or-false, and-false, and-eq-true-iff}
 use Prim.Native.Nat.{ℕ, suc, _+_, _-_, _*_, _/_, _%_, _^_, _≤_, _<_}
-use native.Mathlib.Nat.{one-mul, div-eq-of-lt, div-self, add-div-right, add-sub-cancel, sub-add-cancel, pow-suc, mul-mod-left, le-div-iff-mul-le}
+use native.Mathlib.Nat.{one-mul, div-eq-of-lt, div-self, add-div-right}
+use native.Mathlib.Nat.{add-sub-cancel, sub-add-cancel, pow-suc, mul-mod-left, le-div-iff-mul-le}
 use native.Mathlib.Omega.{arith}
 use lib.Arith.{lt-of-le-ne}
 use lib.Bits.{bitAnd, bitOr, and-high, or-add-and, or-lt}
@@ -94,7 +95,8 @@ module _ (word i : ℕ) (e : bitAt word i ≡ true) where
 
   set-taken : bitAt (word - 2 ^ i) i ≡ false
   set-taken =
-      let q : word / 2 ^ i ≡ (word - 2 ^ i) / 2 ^ i + 1 = ap (λ (x : ℕ). x / 2 ^ i) (sym (sub-add-cancel set-large)) ∙ add-div-right (word - 2 ^ i) (pow-pos i) in
+      let q : word / 2 ^ i ≡ (word - 2 ^ i) / 2 ^ i + 1 =
+      ap (λ (x : ℕ). x / 2 ^ i) (sym (sub-add-cancel set-large)) ∙ add-div-right (word - 2 ^ i) (pow-pos i) in
       let z : (word - 2 ^ i) / 2 ^ i % 2 ≡ 0 = omega (arith, set-digit) in
       bit-low (word - 2 ^ i) i set-low ∙ rw z
 

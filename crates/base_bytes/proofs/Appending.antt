@@ -48,7 +48,9 @@ module _ (log : List ℕ) (used : ℕ) (note : List ℕ) where
 
   -- the used part,
   pub noted-before : take used (noted log used note) ≡ take used log
-  noted-before = either (λ l _ _. take used l ≡ take used log) (λ h. take-at (take used log) _ used (length-take-le used log (omega arith))) (λ _. refl)
+  noted-before =
+      either (λ l _ _. take used l ≡ take used log) (λ h. take-at (take used log) _ used (length-take-le used log (omega arith)))
+      (λ _. refl)
 
   -- and what is behind the note.
   pub noted-behind : drop (used + length note) (noted log used note) ≡ drop (used + length note) log
@@ -57,7 +59,11 @@ module _ (log : List ℕ) (used : ℕ) (note : List ℕ) where
       behind : used + length note ≤ length log → drop (used + length note) (withNote log used note) ≡ drop (used + length note) log
       behind h =
           let e : length (take used log) ≡ used = length-take-le used log (omega arith) in
-          rw (← drop-drop (length note) used (withNote log used note), drop-at (take used log) (note ++ drop (used + length note) log) used e)
+          rw (
+            ← drop-drop (length note) used (withNote log used note),
+            drop-at (take used log) (note ++ drop
+                (used + length note) log) used e,
+          )
           (drop-at note (drop (used + length note) log) (length note) refl)
 
   -- What was written stands between the two ends.

@@ -45,7 +45,8 @@ module _ (bytes s : List ℕ) (i p : ℕ) (h : i < length bytes) where
   unfolding begins
   begins-other g e = rw (drop-cons bytes i 0 h, drop-cons s p 0 g, ne-eqb _ _ e)
 
-  pub begins-next : p < length s → getD s p 0 ≡ getD bytes i 0 → begins (drop i bytes) (drop p s) ≡ begins (drop (i + 1) bytes) (drop (p + 1) s)
+  pub begins-next : p < length s → getD s p 0 ≡ getD bytes i 0
+      → begins (drop i bytes) (drop p s) ≡ begins (drop (i + 1) bytes) (drop (p + 1) s)
   unfolding begins
   begins-next g e = rw (drop-cons bytes i 0 h, drop-cons s p 0 g, eq-eqb _ _ e, add-one, add-one)
 

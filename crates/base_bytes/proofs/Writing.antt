@@ -44,25 +44,32 @@ puts-next l k i bytes room more =
     let e : k + i + 1 ≡ k + (i + 1) = omega arith in
     let one : put (pen l (k + i)) (getD bytes i 0) ≡ pen m (k + i + 1) = rw (lt-ltb (k + i) (length l) room) in
     let f : suc i ≡ i + 1 = omega arith in
-    ap (puts (pen l (k + i))) (drop-cons bytes i 0 more) ∙ ap (λ p. puts p (drop (suc i) bytes)) one ∙ ap (λ p. puts (pen m p) (drop (suc i) bytes)) e ∙ ap (λ n. puts (pen m (k + (i + 1))) (drop n bytes)) f
+    ap (puts (pen l (k + i))) (drop-cons bytes i 0 more) ∙ ap (λ p. puts p (drop (suc i) bytes)) one
+    ∙ ap (λ p. puts (pen m p) (drop (suc i) bytes)) e ∙ ap (λ n. puts (pen m (k + (i + 1))) (drop n bytes)) f
 
 -- and no more, where the bytes or the log end.
-pub puts-end : (l : List ℕ) (k i : ℕ) (bytes : List ℕ) → min (length bytes) (length l - k) ≤ i → puts (pen l (k + i)) (drop i bytes) ≡ pen l (k + i)
+pub puts-end : (l : List ℕ) (k i : ℕ) (bytes : List ℕ) → min (length bytes) (length l - k) ≤ i
+    → puts (pen l (k + i)) (drop i bytes) ≡ pen l (k + i)
 unfolding puts
 puts-end l k i bytes h =
     cases (ltb i (length bytes)) (λ e. puts-full l (k + i) (drop i bytes) (omega (arith, h, ltb-true i (length bytes) e)))
     (λ e. rw (drop-of-length-le bytes (ltb-false i (length bytes) e)))
 
 -- With room, all of it is written.
-puts-sets : (l : List ℕ) (k : ℕ) (bytes : List ℕ) → k + length bytes ≤ length l → puts (pen l k) bytes ≡ pen (sets l k bytes) (k + length bytes)
+puts-sets : (l : List ℕ) (k : ℕ) (bytes : List ℕ) → k + length bytes ≤ length l
+    → puts (pen l k) bytes ≡ pen (sets l k bytes) (k + length bytes)
 unfolding puts put
 puts-sets l k [] h = let e : k ≡ k + 0 = omega arith in ap (pen l) e
 puts-sets l k (b ∷ bytes) h =
     let e : suc k + length bytes ≡ k + suc (length bytes) = omega arith in
-    rw (lt-ltb k (length l) (omega arith), add-one) (puts-sets (set l k b) (suc k) bytes (rw length-set (omega arith)) ∙ ap (pen (sets (set l k b) (suc k) bytes)) e)
+    rw (lt-ltb k (length l) (omega arith), add-one)
+    (puts-sets (set l k b) (suc k) bytes (rw length-set (omega arith)) ∙ ap (pen (sets (set l k b) (suc k) bytes)) e)
 
-pub puts-room : (l : List ℕ) (k : ℕ) (bytes : List ℕ) → k + length bytes ≤ length l → puts (pen l k) bytes ≡ pen (take k l ++ (bytes ++ drop (k + length bytes) l)) (k + length bytes)
-puts-room l k bytes h = puts-sets l k bytes h ∙ ap (λ m. pen m (k + length bytes)) (sets-eq bytes l k h ∙ append-assoc (take k l) bytes (drop (k + length bytes) l))
+pub puts-room : (l : List ℕ) (k : ℕ) (bytes : List ℕ) → k + length bytes ≤ length l
+    → puts (pen l k) bytes ≡ pen (take k l ++ (bytes ++ drop (k + length bytes) l)) (k + length bytes)
+puts-room l k bytes h =
+    puts-sets l k bytes h
+    ∙ ap (λ m. pen m (k + length bytes)) (sets-eq bytes l k h ∙ append-assoc (take k l) bytes (drop (k + length bytes) l))
 
 -- From the front of a log that is long enough,
 pub puts-front : (l bytes : List ℕ) → length bytes ≤ length l → puts (pen l 0) bytes ≡ pen (bytes ++ drop (length bytes) l) (length bytes)
@@ -71,7 +78,8 @@ puts-front l bytes h =
     puts-room l 0 bytes (omega arith) ∙ rw z
 
 -- what then stands before the place is what was written.
-pub front-written : (l m bytes : List ℕ) (r : ℕ) → pen m r ≡ puts (pen l 0) bytes → length bytes ≤ length l → (r ≡ length bytes) × (take r m ≡ bytes)
+pub front-written : (l m bytes : List ℕ) (r : ℕ) → pen m r ≡ puts (pen l 0) bytes → length bytes ≤ length l
+    → (r ≡ length bytes) × (take r m ≡ bytes)
 front-written l m bytes r e h =
     let f : pen m r ≡ pen (bytes ++ drop (length bytes) l) (length bytes) = e ∙ puts-front l bytes h in
     (ap (λ p. p .at) f, ap (λ p. take (p .at) (p .log)) f ∙ take-append-seam bytes (drop (length bytes) l))

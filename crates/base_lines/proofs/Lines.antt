@@ -42,7 +42,8 @@ fewest-digits (suc most) (suc zero) n (a, b, c) h =
 fewest-digits (suc most) (suc (suc k)) n f h =
     let two : suc (suc k) ≡ k + 2 = omega arith in
     let g : Fewest 10 1 n (k + 2) = rw two at f in
-    let e : digits 10 (suc k) (n / 10) ≡ decimalIn most (n / 10) = fewest-digits most (suc k) (n / 10) (rw add-one at (fewer k n g)) (omega arith) in
+    let e : digits 10 (suc k) (n / 10) ≡ decimalIn most (n / 10) =
+    fewest-digits most (suc k) (n / 10) (rw add-one at (fewer k n g)) (omega arith) in
     rw (le-ltb n 10 (tens k n g), ← e, lt-ltb (n % 10) 10 (omega arith))
 
 -- a number of 64 bits has no more than twenty

@@ -69,7 +69,8 @@ below-count n l {x} h b =
 
 -- where nobody from n on is there, every member is below n
 pub count-below : (n : ℕ) (l : List ℕ) → ((x : ℕ) → n ≤ x → count x l ≡ 0) → below n l ≡ true
-count-below n l h = member-every (λ y. ltb y n) 0 l (λ x c. cases (ltb x n) (λ e. e) (λ e. absurd (omega (arith, h x (omega (arith, ltb-false))))))
+count-below n l h =
+    member-every (λ y. ltb y n) 0 l (λ x c. cases (ltb x n) (λ e. e) (λ e. absurd (omega (arith, h x (omega (arith, ltb-false))))))
 
 -- ---- what a test keeps
 -- each that f holds of stands there as often as before, and nobody else does

@@ -8,7 +8,8 @@ use native.Mathlib.Nat.{add-zero, add-suc, suc-add, zero-min, min-zero, suc-min-
 use native.Mathlib.Numerals.{add-one}
 use native.Mathlib.Omega.{arith}
 use lib.Dec.{eqb, ltb, leb·suc-suc}
-use lib.ListN.{length, take, drop, getD, replicate, length-append, length-take, length-drop, length-replicate, getD-replicate, drop-of-length-le}
+use lib.ListN.{length, take, drop, getD, replicate}
+use lib.ListN.{length-append, length-take, length-drop, length-replicate, getD-replicate, drop-of-length-le}
 use lib.Seq.{take-suc, drop-cons, getD-take, take-at, getD-at, take-all, length-take-le, ext-getD}
 use borrow.Author.Tests.{eq-eqb, ne-eqb, lt-ltb, eqb-true}
 use Rattle.base_queue.specs.Lists.{keep, everyFrom, count, placeOf, has, withAt, allZero}
@@ -41,11 +42,13 @@ module _ {A : Type 0} where
     keep-append [] m = refl
     keep-append (x ∷ l) m = go (f x) (keep-append l m)
       where
-        go : (b : Bool) → keep f (l ++ m) ≡ keep f l ++ keep f m → cond b (x ∷ keep f (l ++ m)) (keep f (l ++ m)) ≡ cond b (x ∷ keep f l) (keep f l) ++ keep f m
+        go : (b : Bool) → keep f (l ++ m) ≡ keep f l ++ keep f m
+            → cond b (x ∷ keep f (l ++ m)) (keep f (l ++ m)) ≡ cond b (x ∷ keep f l) (keep f l) ++ keep f m
         go true e = ap {B = List A} (λ r. x ∷ r) e
         go false e = e
 
-    pub keep-next : (d : A) (l : List A) (k : ℕ) → k < length l → keep f (take (k + 1) l) ≡ keep f (take k l) ++ cond (f (getD l k d)) (getD l k d ∷ []) []
+    pub keep-next : (d : A) (l : List A) (k : ℕ) → k < length l
+        → keep f (take (k + 1) l) ≡ keep f (take k l) ++ cond (f (getD l k d)) (getD l k d ∷ []) []
     keep-next d l k h = rw (add-one, take-suc l k d h, keep-append)
 
   module _ (f : ℕ → A → Bool) (d : A) where
@@ -64,7 +67,8 @@ module _ {A : Type 0} where
 
     -- a loop that tests each of the first n, from k on
     module _ (l : List A) (n k : ℕ) where
-      pub every-next : k < n → k < length l → f k (getD l k d) ≡ true → everyFrom f k (drop k (take n l)) ≡ everyFrom f (k + 1) (drop (k + 1) (take n l))
+      pub every-next : k < n → k < length l → f k (getD l k d) ≡ true
+          → everyFrom f k (drop k (take n l)) ≡ everyFrom f (k + 1) (drop (k + 1) (take n l))
       every-next h e p = rw (rest-next d l n k h e, p, add-one)
 
       pub every-stop : k < n → k < length l → f k (getD l k d) ≡ false → everyFrom f k (drop k (take n l)) ≡ false
@@ -83,7 +87,8 @@ module _ (x : ℕ) where
   count-append [] m = omega arith
   count-append (y ∷ l) m = go (eqb y x) (count-append l m)
     where
-      go : (b : Bool) → count x (l ++ m) ≡ count x l + count x m → cond b (suc (count x (l ++ m))) (count x (l ++ m)) ≡ cond b (suc (count x l)) (count x l) + count x m
+      go : (b : Bool) → count x (l ++ m) ≡ count x l + count x m
+          → cond b (suc (count x (l ++ m))) (count x (l ++ m)) ≡ cond b (suc (count x l)) (count x l) + count x m
       go true e = omega arith
       go false e = e
 
@@ -106,7 +111,8 @@ module _ (x : ℕ) where
   has-place [] = refl
   has-place (y ∷ l) = go (eqb y x) (has-place l)
     where
-      go : (b : Bool) → ltb (placeOf x l) (length l) ≡ has x l → ltb (cond b 0 (suc (placeOf x l))) (suc (length l)) ≡ ltb 0 (cond b (suc (count x l)) (count x l))
+      go : (b : Bool) → ltb (placeOf x l) (length l) ≡ has x l
+          → ltb (cond b 0 (suc (placeOf x l))) (suc (length l)) ≡ ltb 0 (cond b (suc (count x l)) (count x l))
       go true e = lt-ltb 0 (suc (length l)) (omega arith) ∙ sym (lt-ltb 0 (suc (count x l)) (omega arith))
       go false e = leb·suc-suc (suc (placeOf x l)) (length l) ∙ e
 

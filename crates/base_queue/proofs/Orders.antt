@@ -93,8 +93,11 @@ mono-from : {low low′ : ℕ} {key key′ : ℕ → ℕ} (l : List ℕ) → ((u
     → ((u v : ℕ) → 0 < count u l → 0 < count v l → key u ≤ key v → key′ u ≤ key′ v) → OrderedFrom low key l → OrderedFrom low′ key′ l
 mono-from [] b h o = tt
 mono-from (x ∷ l) b h o =
-    let first = count-head x l in
-    (b x first (o .0), mono-from l (λ u c. h x u first (count-rest u x l c)) (λ u v c d. h u v (count-rest u x l c) (count-rest v x l d)) (o .1))
+    let first = count-head x l in (
+      b x first (o .0),
+      mono-from l (λ u c. h x u first (count-rest u x l c)) (λ u v c d. h u v (count-rest u x l c) (count-rest v x l d))
+          (o .1),
+    )
 
 -- keys that keep the order of the members
 pub ordered-mono : {key key′ : ℕ → ℕ} (l : List ℕ)
@@ -114,7 +117,8 @@ module _ (h p : ℕ → ℕ) (small : (u : ℕ) → p u < 256) where
   pub ordered-pairs : (l : List ℕ) → Ordered (λ u. h u * 256 + p u) l → Ordered h l × ((n : ℕ) → Ordered p (keep (λ u. eqb (h u) n) l))
   ordered-pairs l o = (
     ordered-mono l (λ u v _ _ b. omega (arith, small u, small v)) o,
-    λ n. ordered-mono (keep (run h n) l) (λ u v c d b. let cu = kept (run h n) l c in let cv = kept (run h n) l d in omega (arith, eqb-true))
+    λ n. ordered-mono (keep (run h n) l)
+        (λ u v c d b. let cu = kept (run h n) l c in let cv = kept (run h n) l d in omega (arith, eqb-true))
         (ordered-keep (λ u. h u * 256 + p u) (run h n) l o),
   )
 

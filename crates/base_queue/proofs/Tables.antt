@@ -50,7 +50,8 @@ module _ {A : Type 0} (belongs : A → Bool) (records : List A) (d : A) (out : b
       let (low, all) = and-eq-true-iff (below (length records) l) (everyFrom stands 0 records) .0 h in
       cases (ltb x (length records))
       (λ e. eqb-true (count x l) (one (member x)) (rw zero-add at (every-at stands d 0 records all x (ltb-true x (length records) e))))
-      (λ e. below-count (length records) l low (ltb-false x (length records) e) ∙ ap one (sym (member-past x (ltb-false x (length records) e))))
+      (λ e. below-count (length records) l low (ltb-false x (length records) e)
+      ∙ ap one (sym (member-past x (ltb-false x (length records) e))))
 
   -- and where that is so, it passes
   pub placed-holds : Placed member l → isPlaced belongs records l ≡ true
@@ -72,7 +73,8 @@ module _ (stays : Bool) (after : ℕ → Bool) (x : ℕ) (l : List ℕ) where
   count-moved-other h = cases stays (λ e. rw (e, count-behind-other, count-without-other)) (λ e. rw (e, count-without-other))
 
   -- who belongs stands there, where only x has come to belong or not to
-  pub moved-placed : (b b′ : ℕ → Bool) → Placed b l → b′ x ≡ stays → ((u : ℕ) → (u ≡ x → ⊥) → b′ u ≡ b u) → Placed b′ (moved stays after x l)
+  pub moved-placed : (b b′ : ℕ → Bool) → Placed b l → b′ x ≡ stays → ((u : ℕ) → (u ≡ x → ⊥) → b′ u ≡ b u)
+      → Placed b′ (moved stays after x l)
   moved-placed b b′ P h k u =
       cases (eqb u x) (λ e. rw (eqb-true u x e, h) count-moved-same)
       (λ e. let ne = eqb-false u x e in rw (k u ne) (count-moved-other ne ∙ P u))

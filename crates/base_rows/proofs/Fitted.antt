@@ -1,4 +1,5 @@
--- Laws on rows that fit their widths: they are all there as far as their widths go, and a row that is read fits where the predicted one does.
+-- Laws on rows that fit their widths: they are all there as far as their widths go, and a row that is read fits where the predicted one
+-- does.
 use Prim.Native.Nat.{ℕ, zero, suc, _+_, _/_, _^_, _<_}
 use mathlib.Core.Path.{_≡_, refl}
 use mathlib.Core.List.{List, [], _∷_}

@@ -18,7 +18,8 @@ module _ (os ps : List ℕ) (k j : ℕ) (e : k + 1 ≡ j) (a : k < length os) (b
   flags-next = rw (drop-cons os k 0 a, drop-cons ps k 0 b, ← e, add-one)
 
   pub body-next : (ws : List ℕ) → k < length ws
-      → bodyOf (drop k ws) (drop k os) (drop k ps) ≡ fieldOf (getD ws k 0) (getD os k 0) (getD ps k 0) ++ bodyOf (drop j ws) (drop j os) (drop j ps)
+      → bodyOf (drop k ws) (drop k os) (drop k ps) ≡ fieldOf (getD ws k 0) (getD os k 0) (getD ps k 0) ++ bodyOf (drop j ws) (drop j os)
+      (drop j ps)
   unfolding bodyOf
   body-next ws h = rw (drop-cons ws k 0 h, drop-cons os k 0 a, drop-cons ps k 0 b, ← e, add-one)
 

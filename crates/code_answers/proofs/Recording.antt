@@ -43,7 +43,8 @@ module _ (k : Kernel) (bytes log : List ℕ) (used : ℕ) where
         (λ e. let w : used + length (noteFor k bytes) ≡ used = rw e at h in absurd (omega (arith, w, low))) (λ e. rw (zero-number, e))
 
     pub ends-noted : (ends log used (noteFor k bytes) ≡ used → ⊥)
-        → logged (answer 0 (valueOf k (callOf bytes)) (stateAfter k bytes .runner)) (stateAfter k bytes) (ends log used (noteFor k bytes)) ≡ recorded k bytes log used
+        → logged (answer 0 (valueOf k (callOf bytes)) (stateAfter k bytes .runner)) (stateAfter k bytes) (ends log used (noteFor k bytes))
+        ≡ recorded k bytes log used
     unfolding recorded ends
     ends-noted h = cases (room log used (noteFor k bytes)) (λ e. rw (zero-number, e)) (λ e. absurd (h (rw e)))
 

@@ -2,16 +2,16 @@
 ghost use mathlib.Core.Path.{_≡_};
 ghost use Rattle.spec_answers.specs.Steps.{answer, nextState};
 ghost use Rattle.spec_answers.specs.Logs.{logged, recorded, logAfter};
-use spec_answers::Answer;
-use spec_answers::Logged;
 use code_calls::call;
-use spec_calls::call::Call;
 use code_calls::named;
-use spec_kernel::records::Kernel;
 use code_kernel::runner;
+use code_kernel_find::by_id;
 use code_notes::note;
 use code_notes::note::MOST;
-use code_kernel_find::by_id;
+use spec_answers::Answer;
+use spec_answers::Logged;
+use spec_calls::call::Call;
+use spec_kernel::records::Kernel;
 
 // A refusal: the state and the used length stay.
 pub fn refused(number: u8, runner: u8, k: Kernel, used: usize) -> Logged

@@ -83,7 +83,8 @@ module _ (k : Kernel) (c : Call) where
   unfolding noneFreeOf noneFree namedBy foundBy
   free-named =
       cases (is c 2) (λ e. rw (eqb-true (c .kind) 2 e))
-      (λ e. cases (is c 14) (λ f. rw (eqb-true (c .kind) 14 f)) (λ f. cases (is c 24) (λ g. rw (eqb-true (c .kind) 24 g)) (λ g. rw (e, f, g))))
+      (λ e. cases (is c 14) (λ f. rw (eqb-true (c .kind) 14 f))
+      (λ f. cases (is c 24) (λ g. rw (eqb-true (c .kind) 24 g)) (λ g. rw (e, f, g))))
 
   -- 255 says that nobody waits: so many threads there are, and a is a byte
   module _ (all : length (k .threads) ≡ 32) (byte : c .a < 256) where

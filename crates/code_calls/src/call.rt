@@ -2,7 +2,6 @@
 ghost use mathlib.Core.Path.{_≡_};
 ghost use Prim.Native.Nat.{_+_, _*_};
 ghost use Rattle.spec_calls.specs.Calls.{callOf};
-
 use spec_calls::call::Call;
 
 fn two_bytes(low: u8, high: u8) -> u16

@@ -1,15 +1,15 @@
 // What a call needs of the state, looked up once.
 ghost use mathlib.Core.Path.{_≡_};
 ghost use Rattle.code_calls.specs.Named.{nobody, waiterBy, foundBy, namedBy};
+use code_kernel::records::no_message;
+use code_kernel::records::no_semaphore;
+use code_kernel_find::by_id;
+use code_kernel_find::firsts;
+use code_kernel_find::free;
 use spec_calls::call::Call;
 use spec_kernel::records::Kernel;
 use spec_kernel::records::Message;
 use spec_kernel::records::Semaphore;
-use code_kernel::records::no_message;
-use code_kernel::records::no_semaphore;
-use code_kernel_find::free;
-use code_kernel_find::firsts;
-use code_kernel_find::by_id;
 
 // What the refusals need to know of thread a, thread b, semaphore a, event a and message a, of the kinds that name them; the first
 // that waits for semaphore a; and what the call answers. The bytes come last, so that it takes forty.

@@ -1,9 +1,9 @@
 // What each kind does: one arm a kind.
 ghost use mathlib.Core.Path.{_≡_};
 ghost use Rattle.spec_effects.specs.Effects.{effect};
+use code_semaphores::semaphores;
 use spec_calls::call::Call;
 use spec_kernel::records::Kernel;
-use code_semaphores::semaphores;
 
 pub fn effect(k: Kernel, c: Call) -> Kernel
     ensures { λ r. ⌜ r ≡ effect k c ⌝ }

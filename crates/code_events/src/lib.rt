@@ -2,15 +2,15 @@
 ghost use mathlib.Core.Path.{_≡_};
 ghost use Rattle.spec_events.specs.Events.{wokenIn, workOutFrom, workedOut, loadEvent, pendEvent};
 ghost use Rattle.code_events.specs.Signals.{signalled};
-use spec_calls::call::Call;
-use spec_moves::parts::Threads;
 use code_kernel::places;
+use code_kernel_find::by_id;
+use code_moves::states;
+use spec_calls::call::Call;
 use spec_kernel::records::Condition;
 use spec_kernel::records::Event;
 use spec_kernel::records::Kernel;
 use spec_kernel::records::Wake;
-use code_kernel_find::by_id;
-use code_moves::states;
+use spec_moves::parts::Threads;
 
 // Everybody whose home is h wakes, in the order of the table.
 fn woken_in(p: Threads, h: u16) -> Threads

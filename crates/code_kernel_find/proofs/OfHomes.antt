@@ -73,7 +73,8 @@ module _ (threads : List Thread) (e : length threads ≡ 32) where
   unfolding homeOf
   line-member l {h} {t} ne c =
       cases (ltb t 32) (λ z. ltb-true t 32 z)
-      (λ z. absurd (ne (sym (eqb-true nowhere h (rw (past-end threads noThread e (ltb-false t 32 z)) at (kept (isHome threads h) l c .0))))))
+      (λ z. absurd (ne (sym (eqb-true nowhere h (rw (past-end threads noThread e (ltb-false t 32 z)) at (kept
+      (isHome threads h) l c .0))))))
 
   module _ (places : Queue) {h : ℕ} (b : h < 1024) where
     -- 255 says that the list or queue is empty

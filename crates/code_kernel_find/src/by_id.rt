@@ -2,13 +2,13 @@
 ghost use mathlib.Core.Path.{_≡_};
 ghost use lib.ListN.{getD};
 ghost use Rattle.spec_kernel.specs.Records.{noThread, noSemaphore, noEvent, noMessage};
+use code_kernel::records::no_message;
+use code_kernel::records::no_semaphore;
+use code_kernel::records::no_thread;
 use spec_kernel::records::Event;
 use spec_kernel::records::Message;
 use spec_kernel::records::Semaphore;
 use spec_kernel::records::Thread;
-use code_kernel::records::no_message;
-use code_kernel::records::no_semaphore;
-use code_kernel::records::no_thread;
 
 pub fn thread_at(threads: [Thread; 32], t: u16) -> Thread
     ensures { λ r. ⌜ r ≡ getD threads t noThread ⌝ }

@@ -2,10 +2,10 @@
 ghost use mathlib.Core.Path.{_≡_};
 ghost use Rattle.spec_kernel.specs.Channels.{isFor, firstFor};
 ghost use Rattle.code_kernel_find.specs.AtHome.{firstAtHome};
+use base_queue::Queue;
 use code_kernel::places;
 use spec_kernel::records::Message;
 use spec_kernel::records::Thread;
-use base_queue::Queue;
 
 pub fn first_at_home(threads: [Thread; 32], places: Queue, home: u16) -> u8
     ensures { λ r. ⌜ r ≡ firstAtHome threads places home ⌝ }

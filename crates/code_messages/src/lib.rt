@@ -1,16 +1,16 @@
 // Messages: create, destroy, post and pend.
 ghost use mathlib.Core.Path.{_≡_};
 ghost use Rattle.spec_messages.specs.Messages.{passed, createMessage, destroyMessage, handOver, postMessage, receive, pendMessage};
+use code_kernel::records::no_message;
+use code_kernel_find::by_id;
+use code_kernel_find::firsts;
+use code_kernel_find::free;
+use code_moves::states;
 use spec_calls::call::Call;
 use spec_kernel::records::Condition;
 use spec_kernel::records::Kernel;
 use spec_kernel::records::Message;
 use spec_kernel::records::Wake;
-use code_kernel::records::no_message;
-use code_kernel_find::free;
-use code_kernel_find::firsts;
-use code_kernel_find::by_id;
-use code_moves::states;
 
 // The record in other hands; channel 0 is held.
 fn passed(r: Message, owner: u8, sender: u8, channel: u8) -> Message

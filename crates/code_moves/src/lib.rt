@@ -9,11 +9,11 @@ ghost use Rattle.base_queue.specs.Tables.{placeBehind};
 ghost use Rattle.spec_kernel.specs.Records.{noThread, noMessage};
 ghost use Rattle.spec_kernel.specs.Places.{hasHome, rankOf, isQueued, streamOf};
 ghost use Rattle.spec_moves.specs.Moves.{rejoined, ranksAfter, wakesAfter, postAfter, relocate};
-use spec_moves::parts::Threads;
+use base_queue::Queue;
 use code_kernel::places;
 use spec_kernel::records::Message;
 use spec_kernel::records::Thread;
-use base_queue::Queue;
+use spec_moves::parts::Threads;
 
 // How many stand before the first that ranks after `rank`.
 fn rank_place(records: [Thread; 32], q: Queue, rank: u32) -> usize

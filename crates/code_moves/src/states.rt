@@ -2,10 +2,10 @@
 ghost use mathlib.Core.Path.{_≡_};
 ghost use Rattle.spec_moves.specs.States.{withThreads, moveThread, moveMessage, scheduled};
 ghost use Rattle.spec_moves.specs.Standing.{threadsOf};
-use spec_moves::parts::Threads;
 use spec_kernel::records::Kernel;
 use spec_kernel::records::Message;
 use spec_kernel::records::Thread;
+use spec_moves::parts::Threads;
 
 // The part that threads move in.
 pub fn threads_of(k: Kernel) -> Threads

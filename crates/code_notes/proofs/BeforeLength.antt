@@ -31,10 +31,12 @@ parts k bytes k′ value c =
     ++ section (messagePart c (k′ .runner) (postsOf k) (k′ .messages) value)))))
 
 front-parts : (k : Kernel) (bytes : List ℕ) (k′ : Kernel) (value : ℕ) → frontIn k bytes k′ value ≡ parts k bytes k′ value (callOf bytes)
-unfolding frontIn schedulerSection predictedScheduler touchedThread touchedSemaphore touchedEvent touchedMessage threadEntry semaphoreEntry eventEntry messageEntry
+unfolding frontIn schedulerSection predictedScheduler touchedThread touchedSemaphore touchedEvent touchedMessage threadEntry semaphoreEntry
+    eventEntry messageEntry
 front-parts k bytes k′ value = refl
 
-six : (a b c d e f : List ℕ) → length (a ++ (b ++ (c ++ (d ++ (e ++ f))))) ≡ length a + (length b + (length c + (length d + (length e + length f))))
+six : (a b c d e f : List ℕ)
+    → length (a ++ (b ++ (c ++ (d ++ (e ++ f))))) ≡ length a + (length b + (length c + (length d + (length e + length f))))
 six a b c d e f = simp length-append
 
 section-length : (s : List ℕ) → length (section s) ≡ 2 + length s
@@ -73,7 +75,8 @@ unfolding noteIn
 note-short k bytes k′ value h = rw (length-append, length-le) (omega (arith, front-short k bytes k′ value h))
 
 -- a front and its length behind it are the note: m and n from the front's writer, r and e from the number's
-pub note-closed : (l m : List ℕ) (n : ℕ) (k : Kernel) (bytes : List ℕ) (k′ : Kernel) (value : ℕ) (q : Pen) → length bytes ≡ 16 → 2048 ≤ length l
+pub note-closed : (l m : List ℕ) (n : ℕ) (k : Kernel) (bytes : List ℕ) (k′ : Kernel) (value : ℕ) (q : Pen) → length bytes ≡ 16
+    → 2048 ≤ length l
     → pen m n ≡ puts (pen l 0) (frontIn k bytes k′ value) → q ≡ puts (pen m n) (le 2 (min n 2048 + 2))
     → q ≡ puts (pen l 0) (noteIn k bytes k′ value)
 unfolding noteIn

@@ -37,7 +37,8 @@ use Rattle.code_notes_threads.specs.ThreadEntries.{isChanged, entryOf}
 use Rattle.code_notes.specs.SectionsOf.{threadPart, semaphorePart, eventPart, messagePart}
 
 -- what was written to the front of an array that is long enough: that it stands there, and how far it goes
-pub composed : (l m part : List ℕ) (r : ℕ) → pen m r ≡ puts (pen l 0) part → length part ≤ length l → (r ≤ length m) × (take r m ≡ part) × (r ≡ length part)
+pub composed : (l m part : List ℕ) (r : ℕ) → pen m r ≡ puts (pen l 0) part → length part ≤ length l
+    → (r ≤ length m) × (take r m ≡ part) × (r ≡ length part)
 composed l m part r e h =
     let (n, t) = front-written l m part r e h in
     let s : length m ≡ length l = ap (λ p. length (p .log)) e ∙ length-puts (pen l 0) part in
@@ -104,7 +105,8 @@ message-in c value =
     (either (isOneOf c (24 ∷ 27 ∷ [])) (alone-inside 64 value)
     (either (isOneOf c (25 ∷ 26 ∷ [])) (alone-inside 64 (c .a)) (none 64)))
 
-pub thread-inside : (c : Call) (runner value waiter : ℕ) → threadSpan c runner value waiter .first + threadSpan c runner value waiter .count ≤ 32
+pub thread-inside : (c : Call) (runner value waiter : ℕ)
+    → threadSpan c runner value waiter .first + threadSpan c runner value waiter .count ≤ 32
 thread-inside c runner value waiter = thread-in c runner value waiter .fits
 
 pub semaphore-inside : (c : Call) (value : ℕ) → semaphoreSpan c value .first + semaphoreSpan c value .count ≤ 16
@@ -117,7 +119,8 @@ pub message-inside : (c : Call) (value : ℕ) → messageSpan c value .first + m
 message-inside c value = message-in c value .fits
 
 -- ---- so many bytes each
-entries-most : (touched : ℕ → Bool) (entry : ℕ → List ℕ) (v i n : ℕ) → ((j : ℕ) → length (entry j) ≤ v) → length (entriesFrom touched entry i n) ≤ v * n
+entries-most : (touched : ℕ → Bool) (entry : ℕ → List ℕ) (v i n : ℕ) → ((j : ℕ) → length (entry j) ≤ v)
+    → length (entriesFrom touched entry i n) ≤ v * n
 entries-most touched entry v i n h =
     let s = entries-short touched (λ _. false) entry 0 v (λ j _. omega (arith, h j)) i n in
     let z = zero-mul (countFrom (λ _. false) i n) in
@@ -138,12 +141,15 @@ module _ (c : Call) where
       go : (os ps : List ℕ) → length (unlessPredicted schedulerWidths os ps) ≤ 4
       go os ps = cases (eqb (flagsOf os ps) 0) (λ e. rw e (omega arith)) (λ e. rw e (omega (arith, body-short schedulerWidths os ps)))
 
-  pub threads-short : (runner waiter : ℕ) (old : Threads) (new : List Thread) (value : ℕ) → length (threadPart c runner waiter old new value) ≤ 480
+  pub threads-short : (runner waiter : ℕ) (old : Threads) (new : List Thread) (value : ℕ)
+      → length (threadPart c runner waiter old new value) ≤ 480
   unfolding sum
   threads-short runner waiter old new value =
       let s = threadSpan c runner value waiter in
       let b : s .first + s .count ≤ 32 = thread-inside c runner value waiter in
-      let h = entries-most (isChanged c runner old new) (entryOf c old new) 15 (s .first) (s .count) (λ j. body-three 15 threadWidths _ _ (omega arith)) in
+      let h =
+      entries-most (isChanged c runner old new) (entryOf c old new) 15 (s .first) (s .count)
+      (λ j. body-three 15 threadWidths _ _ (omega arith)) in
       omega arith
 
   pub semaphores-short : (old new : List Semaphore) (value : ℕ) → length (semaphorePart c old new value) ≤ 240
@@ -151,7 +157,8 @@ module _ (c : Call) where
   semaphores-short old new value =
       let s = semaphoreSpan c value in
       let b : s .first + s .count ≤ 16 = semaphore-inside c value in
-      let h : length (semaphoreEntries c old new (s .first) (s .count)) ≤ 15 * s .count = entries-most _ _ 15 (s .first) (s .count) (λ j. body-two 15 semaphoreWidths _ _ (omega arith)) in
+      let h : length (semaphoreEntries c old new (s .first) (s .count)) ≤ 15 * s .count =
+      entries-most _ _ 15 (s .first) (s .count) (λ j. body-two 15 semaphoreWidths _ _ (omega arith)) in
       omega arith
 
   pub events-short : (bits after : ℕ) (old new : List Event) → length (eventPart c bits after old new) ≤ 89
@@ -159,7 +166,8 @@ module _ (c : Call) where
   events-short bits after old new =
       let s = eventSpan c in
       let b : s .first + s .count ≤ 8 = event-inside c in
-      let h : length (eventEntries old new (s .first) (s .count)) ≤ 11 * s .count = entries-most _ _ 11 (s .first) (s .count) (λ j. body-two 11 eventWidths _ _ (omega arith)) in
+      let h : length (eventEntries old new (s .first) (s .count)) ≤ 11 * s .count =
+      entries-most _ _ 11 (s .first) (s .count) (λ j. body-two 11 eventWidths _ _ (omega arith)) in
       rw length-append (cases (eqb bits after) (λ e. rw e (omega arith)) (λ e. rw e (omega arith)))
 
   pub messages-short : (runner : ℕ) (old : Posts) (new : List Message) (value : ℕ) → length (messagePart c runner old new value) ≤ 1088
@@ -167,5 +175,6 @@ module _ (c : Call) where
   messages-short runner old new value =
       let s = messageSpan c value in
       let b : s .first + s .count ≤ 64 = message-inside c value in
-      let h : length (messageEntries c runner old new (s .first) (s .count)) ≤ 17 * s .count = entries-most _ _ 17 (s .first) (s .count) (λ j. body-two 17 messageWidths _ _ (omega arith)) in
+      let h : length (messageEntries c runner old new (s .first) (s .count)) ≤ 17 * s .count =
+      entries-most _ _ 17 (s .first) (s .count) (λ j. body-two 17 messageWidths _ _ (omega arith)) in
       omega arith

@@ -17,6 +17,7 @@ looked-for false true waiter s = refl
 looked-for false false waiter s = refl
 
 -- what a call finds is enough for its span
-pub waiter-found : (k : Kernel) (c : Call) (n : Named) (runner value : ℕ) → n ≡ namedBy k c → threadSpan c runner value (n .waiter) ≡ threadSpan c runner value (waiterOf k c)
+pub waiter-found : (k : Kernel) (c : Call) (n : Named) (runner value : ℕ) → n ≡ namedBy k c
+    → threadSpan c runner value (n .waiter) ≡ threadSpan c runner value (waiterOf k c)
 unfolding threadSpan namedBy waiterBy
 waiter-found k c n runner value e = rw (ap (λ m. m .waiter) e, looked-for (is c 15) (isOneOf c (19 ∷ 28 ∷ [])) (waiterOf k c))

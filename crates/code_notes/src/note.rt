@@ -7,19 +7,19 @@ ghost use Rattle.spec_moves.specs.Standing.{threadsOf, postsOf};
 ghost use Rattle.spec_notes.specs.Notes.{section};
 ghost use Rattle.code_notes_scheduler.specs.SchedulerEntry.{levelsNoted};
 ghost use Rattle.code_notes.specs.SectionsOf.{levelsOf, threadPart, semaphorePart, eventPart, messagePart};
-use spec_calls::call::Call;
+use crate::spans;
 use base_bytes::bytes::least;
 use base_bytes::pens;
-use spec_moves::parts::Posts;
-use spec_moves::parts::Threads;
-use spec_kernel::records::Kernel;
-use code_notes_messages::message_notes;
 use code_notes_events::event_notes;
-use code_notes_semaphores::semaphore_notes;
+use code_notes_messages::message_notes;
 use code_notes_scheduler::scheduler_notes;
 use code_notes_scheduler::scheduler_notes::Levels;
-use crate::spans;
+use code_notes_semaphores::semaphore_notes;
 use code_notes_threads::thread_notes;
+use spec_calls::call::Call;
+use spec_kernel::records::Kernel;
+use spec_moves::parts::Posts;
+use spec_moves::parts::Threads;
 
 // The scheduler's section: its flags and three bytes.
 const LEVEL_BYTES: usize = 4;

@@ -44,7 +44,8 @@ module _ (s : List ℕ) (p q : ℕ) (e : q ≡ p + 2 + un 2 (drop p s)) where
   whole h = le-leb (2 + un 2 (drop p s)) (length (drop p s)) (rw length-drop (omega arith))
 
 whole-last : (a b c d e rest : List ℕ) → areWhole a b c d e rest ≡ true → length rest ≡ 2
-whole-last a b c d e rest q = eqb-true (length rest) 2 (and-both (isWhole a && isWhole b && isWhole c && isWhole d && isWhole e) (eqb (length rest) 2) q .1)
+whole-last a b c d e rest q =
+    eqb-true (length rest) 2 (and-both (isWhole a && isWhole b && isWhole c && isWhole d && isWhole e) (eqb (length rest) 2) q .1)
 
 -- ---- the five of them, of the lengths that are read
 module _ (s : List ℕ) (v w x y z : ℕ) where
@@ -64,9 +65,11 @@ module _ (s : List ℕ) (v w x y z : ℕ) where
   f = e + 2 + z
 
   abbrev pub framed : Frames
-  framed = record { scheduler = part 18 b; threads = part (b + 2) c; semaphores = part (c + 2) d; events = part (d + 2) e; messages = part (e + 2) f }
+  framed =
+      record { scheduler = part 18 b; threads = part (b + 2) c; semaphores = part (c + 2) d; events = part (d + 2) e; messages = part (e + 2) f }
 
-  module _ (v′ : v ≡ un 2 (drop 16 s)) (w′ : w ≡ un 2 (drop b s)) (x′ : x ≡ un 2 (drop c s)) (y′ : y ≡ un 2 (drop d s)) (z′ : z ≡ un 2 (drop e s)) where
+  module _ (v′ : v ≡ un 2 (drop 16 s)) (w′ : w ≡ un 2 (drop b s)) (x′ : x ≡ un 2 (drop c s)) (y′ : y ≡ un 2 (drop d s))
+      (z′ : z ≡ un 2 (drop e s)) where
     pub frames-fit : f + 2 ≡ length s → framesOf s ≡ sections (sectionsMeant framed s)
     unfolding framesOf framesFrom sectionsMeant
     frames-fit h =
@@ -93,10 +96,18 @@ module _ (s : List ℕ) (v w x y z : ℕ) where
     pub frames-none : (f + 2 ≡ length s → ⊥) → framesOf s ≡ nothing
     unfolding framesOf framesFrom
     frames-none h =
-        rw (behind s 16 b (omega arith), behind s b c (omega arith), behind s c d (omega arith), behind s d e (omega arith), behind s e f (omega arith))
+        rw (
+          behind s 16 b (omega arith),
+          behind s b c (omega arith),
+          behind s c d (omega arith),
+          behind s d e (omega arith),
+          behind s e f
+              (omega arith),
+        )
         (go (areWhole (drop 16 s) (drop b s) (drop c s) (drop d s) (drop e s) (drop f s)) _ refl)
       where
-        go : (t : Bool) (u : Sections) → areWhole (drop 16 s) (drop b s) (drop c s) (drop d s) (drop e s) (drop f s) ≡ t → cond t (sections u) nothing ≡ nothing
+        go : (t : Bool) (u : Sections) → areWhole (drop 16 s) (drop b s) (drop c s) (drop d s) (drop e s) (drop f s) ≡ t
+            → cond t (sections u) nothing ≡ nothing
         go true u q =
             let n : length (drop f s) ≡ 2 = whole-last (drop 16 s) (drop b s) (drop c s) (drop d s) (drop e s) (drop f s) q in
             let m : length s - f ≡ 2 = rw length-drop at n in
@@ -125,5 +136,6 @@ unfolding recordOf
 record-byte note i h = getD-take 16 (note ++ replicate 16 0) i 0 h ∙ padded 16 note i
 
 -- one element more is as in t
-pub copied-next : (t l : List ℕ) (k v : ℕ) → k < length t → k < length l → take k l ≡ take k t → v ≡ getD t k 0 → take (k + 1) (set l k v) ≡ take (k + 1) t
+pub copied-next : (t l : List ℕ) (k v : ℕ) → k < length t → k < length l → take k l ≡ take k t → v ≡ getD t k 0
+    → take (k + 1) (set l k v) ≡ take (k + 1) t
 copied-next t l k v a b e f = rw (add-one, take-suc-set l k v b, take-suc t k 0 a, e, f)

@@ -33,11 +33,13 @@ module _ (at l : List ℕ) (n i j : ℕ) (h : i < length at) (s : n ≤ length l
 
   -- one place: the noted member, or the next that stayed
   pub merge-next : (eqb x 255 && leb n j) ≡ false
-      → mergeFrom i at (drop j (take n l)) ≡ cond (eqb x 255) (getD l j 0) x ∷ mergeFrom (i + 1) at (drop (cond (eqb x 255) (j + 1) j) (take n l))
+      → mergeFrom i at (drop j (take n l)) ≡ cond (eqb x 255) (getD l j 0) x ∷ mergeFrom (i + 1) at
+      (drop (cond (eqb x 255) (j + 1) j) (take n l))
   merge-next e = first (drop j (take n l)) ∙ go (eqb x 255) refl e
     where
       go : (b : Bool) → eqb x 255 ≡ b → (b && leb n j) ≡ false
-          → fillPlace x (drop j (take n l)) (mergeFrom (i + 1) at) ≡ cond b (getD l j 0) x ∷ mergeFrom (i + 1) at (drop (cond b (j + 1) j) (take n l))
+          → fillPlace x (drop j (take n l)) (mergeFrom (i + 1) at) ≡ cond b (getD l j 0) x ∷ mergeFrom (i + 1) at
+          (drop (cond b (j + 1) j) (take n l))
       go true p q =
           let g : j < n = leb-false n j q in
           let g′ : j < length l = omega arith in

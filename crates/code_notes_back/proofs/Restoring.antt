@@ -32,7 +32,8 @@ module _ (c : Call) (k : Kernel) (x : Sections) where
   fits-at = refl
 
   -- both levels are bytes, or one isn't
-  pub back-fits : level 0 < 256 → level 1 < 256 → backOf c k x ≡ record { fits = true; kernel = scheduled (beforeAt c k x (level 0) (level 1) (level 2)) }
+  pub back-fits : level 0 < 256 → level 1 < 256
+      → backOf c k x ≡ record { fits = true; kernel = scheduled (beforeAt c k x (level 0) (level 1) (level 2)) }
   unfolding backOf
   back-fits p q = rw (fits-at, lt-ltb (level 0) 256 p, lt-ltb (level 1) 256 q, state-at)
 

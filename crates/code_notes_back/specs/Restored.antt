@@ -11,7 +11,8 @@ use Rattle.spec_moves.specs.Standing.{threadsOf, postsOf}
 use Rattle.spec_calls.specs.declared.call.Call.{Call}
 use Rattle.spec_notes.specs.Rows.{schedulerWidths}
 use Rattle.spec_notes.specs.Predicted.{predictedLevels}
-use Rattle.spec_notes.specs.Back.{Sections, threadsBefore, semaphoresBefore, eventsBefore, bitsBefore, messagesBefore, putBackAll, earlier, stateBefore}
+use Rattle.spec_notes.specs.Back.{Sections, threadsBefore, semaphoresBefore, eventsBefore}
+use Rattle.spec_notes.specs.Back.{bitsBefore, messagesBefore, putBackAll, earlier, stateBefore}
 use Rattle.spec_notes.specs.Undoes.{levelsFit}
 use Rattle.code_notes_back.specs.declared.state_back.Back.{Back}
 

@@ -8,20 +8,20 @@ ghost use Rattle.code_notes_back.specs.Restored.{levelsBefore, threadsBa
 use crate::frames::Frames;
 use crate::frames::part_of;
 use crate::table_back::put_back_all;
-use spec_calls::call::Call;
 use base_bytes::bytes::byte_at;
 use base_rows::rows::Row;
 use base_rows::rows::row_at;
-use spec_moves::parts::Posts;
-use spec_moves::parts::Threads;
-use spec_kernel::records::Kernel;
-use code_notes_scheduler::scheduler_rows;
+use code_moves::states;
 use code_notes_events::event_back::bits_before;
 use code_notes_events::event_back::events_before;
 use code_notes_messages::message_back::messages_before;
+use code_notes_scheduler::scheduler_rows;
 use code_notes_semaphores::semaphore_back::semaphores_before;
 use code_notes_threads::thread_back::threads_before;
-use code_moves::states;
+use spec_calls::call::Call;
+use spec_kernel::records::Kernel;
+use spec_moves::parts::Posts;
+use spec_moves::parts::Threads;
 
 const WIDTHS: [u8; 8] = [1, 1, 1, 0, 0, 0, 0, 0];
 

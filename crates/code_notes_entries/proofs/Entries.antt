@@ -33,7 +33,8 @@ module _ (touched : ℕ → Bool) (entry : ℕ → List ℕ) where
   entries-none i (suc n) h = rw (h i (omega arith)) (entries-none (suc i) n (λ j l. h j (omega arith)))
 
 -- past the last record there is the empty one on both sides, which no call changes
-pub past-both : {A : Type 0} (changed : A → A → Bool) (old new : List A) (d : A) {n i : ℕ} → length old ≡ n → length new ≡ n → changed d d ≡ false
+pub past-both : {A : Type 0} (changed : A → A → Bool) (old new : List A) (d : A) {n i : ℕ} → length old ≡ n → length new ≡ n
+    → changed d d ≡ false
     → n ≤ i → (j : ℕ) → i ≤ j → changed (getD old j d) (getD new j d) ≡ false
 past-both changed old new d {n} {i} e f z h j l =
     let b : n ≤ j = omega arith in
@@ -43,7 +44,9 @@ pub no-semaphore : (c : Call) → changedSemaphore c noSemaphore noSemaphore ≡
 unfolding sameSemaphore youngerSemaphore
 no-semaphore c = go (is c 1)
   where
-    go : (b : Bool) → not (sameSemaphore noSemaphore (record { live = false; count = 0; maximum = 0; ticks = cond (b && false) 1 0; period = 0 })) ≡ false
+    go : (b : Bool)
+        → not (sameSemaphore noSemaphore (record { live = false; count = 0; maximum = 0; ticks = cond (b && false) 1 0; period = 0 }))
+        ≡ false
     go true = refl
     go false = refl
 

@@ -17,7 +17,8 @@ use Rattle.spec_calls.specs.declared.call.Call.{Call}
 use Rattle.spec_notes.specs.Rows.{semaphoreFrom, semaphoreWidths, eventFrom, eventWidths, messageFrom, messageWidths}
 use Rattle.spec_notes.specs.Touched.{youngerSemaphore}
 use Rattle.spec_notes.specs.Predicted.{predictedSemaphore, predictedEvent, predictedMessage}
-use Rattle.spec_notes.specs.Back.{readSemaphores, semaphoresBefore, readEvents, bitChanged, eventsBefore, Filing, messageBack, readMessages, messagesBefore}
+use Rattle.spec_notes.specs.Back.{readSemaphores, semaphoresBefore, readEvents, bitChanged}
+use Rattle.spec_notes.specs.Back.{eventsBefore, Filing, messageBack, readMessages, messagesBefore}
 
 -- ---- entry by entry: what an entry does of its id and the bytes behind it, and how many of them are its own
 module _ {A : Type 0} (does : ℕ → List ℕ → A → A) (own : List ℕ → ℕ) where
@@ -50,7 +51,8 @@ module _ {A : Type 0} (does : ℕ → List ℕ → A → A) (own : List ℕ → 
       let t : List ℕ = drop (suc p) s in
       let d = length-drop (own t) t in
       rw (drop-cons s p 0 h)
-      (entries-enough (length t) (length (drop (own t) t)) (drop (own t) t) (does (getD s p 0) t a) (omega arith) (omega arith) ∙ rw (drop-drop, ← e))
+      (entries-enough (length t) (length (drop (own t) t)) (drop (own t) t) (does (getD s p 0) t a) (omega arith) (omega arith)
+      ∙ rw (drop-drop, ← e))
 
   pub entries-next : (s : List ℕ) (p q : ℕ) (a : A) → p < length s → q ≡ p + 1 + own (drop (p + 1) s)
       → entriesFrom s p a ≡ entriesFrom s q (does (getD s p 0) (drop (p + 1) s) a)
@@ -73,7 +75,8 @@ module _ {A : Type 0} (ws : List ℕ) (does : ℕ → ℕ → List ℕ → A →
   flaggedFrom s p a = entriesFrom ofFlags flagsOwn s p a
 
   pub flagged-next : (s : List ℕ) (p : ℕ) (a : A) → p < length s
-      → flaggedFrom s p a ≡ flaggedFrom s (p + 1 + 1 + usedBy ws (getD s (p + 1) 0)) (does (getD s p 0) (getD s (p + 1) 0) (drop (p + 1 + 1) s) a)
+      → flaggedFrom s p a ≡ flaggedFrom s (p + 1 + 1 + usedBy ws (getD s (p + 1) 0))
+      (does (getD s p 0) (getD s (p + 1) 0) (drop (p + 1 + 1) s) a)
   flagged-next s p a h =
       let g : getD (drop (p + 1) s) 0 0 ≡ getD s (p + 1) 0 = rw (getD-drop, add-zero) in
       entries-next ofFlags flagsOwn s p (p + 1 + 1 + usedBy ws (getD s (p + 1) 0)) a h (rw g (omega arith)) ∙ rw (g, drop-drop)
@@ -100,7 +103,8 @@ module _ (c : Call) (new : List Semaphore) where
   semaphores-entries (suc n) [] a = refl
   semaphores-entries (suc n) (i ∷ s) a = semaphores-entries n _ _
 
-  pub semaphores-turns : (s : List ℕ) → semaphoresBefore c new s ≡ flaggedFrom semaphoreWidths semaphoreDoes s 0 (map (youngerSemaphore c) new)
+  pub semaphores-turns : (s : List ℕ)
+      → semaphoresBefore c new s ≡ flaggedFrom semaphoreWidths semaphoreDoes s 0 (map (youngerSemaphore c) new)
   unfolding semaphoresBefore
   semaphores-turns s = semaphores-entries (length s) s _
 
@@ -108,7 +112,8 @@ module _ (new : List Event) where
   abbrev pub eventDoes : ℕ → ℕ → List ℕ → List Event → List Event
   eventDoes i flags t a = set a i (eventFrom (rowFrom eventWidths flags (predictedEvent (getD new i noEvent)) t))
 
-  events-entries : (n : ℕ) (s : List ℕ) (a : List Event) → readEvents n new s a ≡ entries (ofFlags eventWidths eventDoes) (flagsOwn eventWidths eventDoes) n s a
+  events-entries : (n : ℕ) (s : List ℕ) (a : List Event)
+      → readEvents n new s a ≡ entries (ofFlags eventWidths eventDoes) (flagsOwn eventWidths eventDoes) n s a
   unfolding readEvents entries
   events-entries zero s a = refl
   events-entries (suc n) [] a = refl
@@ -119,27 +124,31 @@ module _ (new : List Event) where
   events-turns s =
       let d = length-drop (cond (bitChanged s) 1 0) s in
       events-entries (length s) (drop (cond (bitChanged s) 1 0) s) new
-      ∙ entries-enough _ _ (length s) (length (drop (cond (bitChanged s) 1 0) s)) (drop (cond (bitChanged s) 1 0) s) new (omega arith) (omega arith)
+      ∙ entries-enough _ _ (length s) (length (drop (cond (bitChanged s) 1 0) s)) (drop (cond (bitChanged s) 1 0) s) new (omega arith)
+      (omega arith)
 
 module _ (c : Call) (runner : ℕ) (new : List Message) where
   abbrev pub messageDoes : ℕ → ℕ → List ℕ → Filing → Filing
   messageDoes m flags t a = messageBack m (rowFrom messageWidths flags (predictedMessage c runner (getD new m noMessage)) t) a
 
-  messages-entries : (n : ℕ) (s : List ℕ) (a : Filing) → readMessages n c runner new s a ≡ entries (ofFlags messageWidths messageDoes) (flagsOwn messageWidths messageDoes) n s a
+  messages-entries : (n : ℕ) (s : List ℕ) (a : Filing)
+      → readMessages n c runner new s a ≡ entries (ofFlags messageWidths messageDoes) (flagsOwn messageWidths messageDoes) n s a
   unfolding readMessages entries
   messages-entries zero s a = refl
   messages-entries (suc n) [] a = refl
   messages-entries (suc n) (i ∷ s) a = messages-entries n _ _
 
   pub messages-turns : (s : List ℕ)
-      → messagesBefore c runner new s ≡ flaggedFrom messageWidths messageDoes s 0 (record { messages = new; out = replicate 64 0; at = replicate 64 255 })
+      → messagesBefore c runner new s ≡ flaggedFrom messageWidths messageDoes s 0
+      (record { messages = new; out = replicate 64 0; at = replicate 64 255 })
   unfolding messagesBefore
   messages-turns s = messages-entries (length s) s _
 
 -- ---- a turn of each loop, of what its calls answer
 module _ (s : List ℕ) (p b u : ℕ) (h : p < length s) (b′ : b ≡ getD s (p + 1) 0) where
   pub semaphore-turn : (c : Call) (new a a′ : List Semaphore) (v : Semaphore) → u ≡ usedBy semaphoreWidths b
-      → v ≡ semaphoreFrom (rowFrom semaphoreWidths (getD s (p + 1) 0) (predictedSemaphore c (getD new (getD s p 0) noSemaphore)) (drop (p + 1 + 1) s))
+      → v ≡ semaphoreFrom
+      (rowFrom semaphoreWidths (getD s (p + 1) 0) (predictedSemaphore c (getD new (getD s p 0) noSemaphore)) (drop (p + 1 + 1) s))
       → a′ ≡ set a (getD s p 0) v
       → flaggedFrom semaphoreWidths (semaphoreDoes c new) s p a ≡ flaggedFrom semaphoreWidths (semaphoreDoes c new) s (p + 1 + 1 + u) a′
   semaphore-turn c new a a′ v e f g = flagged-next semaphoreWidths (semaphoreDoes c new) s p a h ∙ rw (g, f, e, b′)
@@ -150,7 +159,8 @@ module _ (s : List ℕ) (p b u : ℕ) (h : p < length s) (b′ : b ≡ getD s (p
       → flaggedFrom eventWidths (eventDoes new) s p a ≡ flaggedFrom eventWidths (eventDoes new) s (p + 1 + 1 + u) a′
   event-turn new a a′ v e f g = flagged-next eventWidths (eventDoes new) s p a h ∙ rw (g, f, e, b′)
 
-  pub message-turn : (c : Call) (runner : ℕ) (new : List Message) (r : Message) (row : List ℕ) (messages messages′ : List Message) (out out′ at at′ : List ℕ)
+  pub message-turn : (c : Call) (runner : ℕ) (new : List Message) (r : Message) (row : List ℕ) (messages messages′ : List Message)
+      (out out′ at at′ : List ℕ)
       → u ≡ usedBy messageWidths b
       → r ≡ getD new (getD s p 0) noMessage
       → row ≡ rowFrom messageWidths (getD s (p + 1) 0) (predictedMessage c runner r) (drop (p + 1 + 1) s)

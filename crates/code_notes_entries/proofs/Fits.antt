@@ -20,7 +20,8 @@ pub row-whole : (ws : List ℕ) (flags : ℕ) (ps s : List ℕ) → Bytes s → 
 row-whole ws flags ps s h q = fitted-fit ws (rowFrom ws flags ps s) (rows-fit ws flags ps s h q)
 
 -- a row that is read by widths of at most four bytes, beside a predicted one that fits
-pub read-fits : (ws : List ℕ) (flags : ℕ) (ps s : List ℕ) → cut ws ≡ ws → Bytes s → Fit ws ps → fitted ws (rowFrom (cut ws) flags ps s) ≡ rowFrom ws flags ps s
+pub read-fits : (ws : List ℕ) (flags : ℕ) (ps s : List ℕ) → cut ws ≡ ws → Bytes s → Fit ws ps
+    → fitted ws (rowFrom (cut ws) flags ps s) ≡ rowFrom ws flags ps s
 read-fits ws flags ps s e h q = rw e (row-whole ws flags ps s h q)
 
 pub below : (b : Bool) (x y n : ℕ) → x < n → y < n → cond b x y < n
@@ -43,7 +44,10 @@ semaphore-fits c r n m t p = (
   below (is c 14) _ _ 256 (omega arith) (omega arith),
   (
     below (is c 14) _ _ 65536 (omega arith) n,
-    (below (is c 14) _ _ 65536 (omega arith) m, (below (is c 1) _ _ 4294967296 (omega arith) t, (p, (omega arith, (omega arith, (omega arith, tt)))))),
+    (
+      below (is c 14) _ _ 65536 (omega arith) m,
+      (below (is c 1) _ _ 4294967296 (omega arith) t, (p, (omega arith, (omega arith, (omega arith, tt))))),
+    ),
   ),
 )
 
@@ -60,7 +64,8 @@ pub cut-message : cut messageWidths ≡ messageWidths
 unfolding cut
 cut-message = refl
 
-pub message-fits : (c : Call) (runner : ℕ) (r : Message) → c .a < 256 → runner < 256 → r .owner < 256 → r .sender < 256 → r .kind < 65536 → r .size < 4294967296
+pub message-fits : (c : Call) (runner : ℕ) (r : Message) → c .a < 256 → runner < 256 → r .owner < 256 → r .sender < 256 → r .kind < 65536
+    → r .size < 4294967296
     → r .address < 4294967296 → Fit messageWidths (predictedMessage c runner r)
 unfolding predictedMessage
 message-fits c runner r a u o s k z d = (

@@ -7,12 +7,12 @@ ghost use Rattle.base_rows.specs.Rows.{rowFrom};
 ghost use Rattle.spec_notes.specs.Rows.{eventFrom, eventWidths};
 ghost use Rattle.spec_notes.specs.Predicted.{predictedEvent};
 ghost use Rattle.spec_notes.specs.Back.{bitChanged, bitsBefore, eventsBefore};
-use spec_calls::call::Call;
+use crate::event_rows;
 use base_bytes::bytes::byte_at;
 use base_rows::rows::row_at;
 use base_rows::rows::used_by;
+use spec_calls::call::Call;
 use spec_kernel::records::Event;
-use crate::event_rows;
 
 const WIDTHS: [u8; 8] = [1, 4, 4, 0, 0, 0, 0, 0];
 

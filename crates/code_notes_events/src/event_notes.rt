@@ -7,10 +7,10 @@ ghost use Rattle.base_bytes.specs.Pens.{pen, puts};
 ghost use Rattle.spec_notes.specs.Touched.{sameEvent};
 ghost use Rattle.spec_notes.specs.Sections.{eventNoted};
 ghost use Rattle.code_notes_events.specs.EventEntries.{eventEntries};
-use code_notes_entries::fields::put_fields;
-use base_bytes::pens::put_byte;
-use spec_kernel::records::Event;
 use crate::event_rows;
+use base_bytes::pens::put_byte;
+use code_notes_entries::fields::put_fields;
+use spec_kernel::records::Event;
 
 const EVENT_WIDTHS: [u8; 8] = [1, 4, 4, 0, 0, 0, 0, 0];
 

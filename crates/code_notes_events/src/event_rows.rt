@@ -3,9 +3,9 @@ ghost use mathlib.Core.Path.{_≡_};
 ghost use Rattle.base_rows.specs.Rows.{fitted};
 ghost use Rattle.spec_notes.specs.Rows.{eventRow, eventWidths, eventFrom};
 ghost use Rattle.spec_notes.specs.Touched.{sameEvent};
+use base_rows::rows::Row;
 use code_notes_entries::choices::one_if;
 use code_notes_entries::choices::word;
-use base_rows::rows::Row;
 use spec_kernel::records::Event;
 
 pub fn row_of(r: Event) -> Row

@@ -7,14 +7,14 @@ ghost use Rattle.spec_notes.specs.Rows.{messageWidths};
 ghost use Rattle.spec_notes.specs.Predicted.{predictedMessage};
 ghost use Rattle.spec_notes.specs.Back.{messagesBefore};
 ghost use Rattle.code_notes_messages.specs.Filed.{filing};
-use spec_calls::call::Call;
+use crate::message_rows;
 use base_bytes::bytes::byte_at;
 use base_rows::rows::Row;
 use base_rows::rows::row_at;
 use base_rows::rows::used_by;
-use spec_kernel::records::Message;
-use crate::message_rows;
 use code_kernel_find::by_id;
+use spec_calls::call::Call;
+use spec_kernel::records::Message;
 
 const WIDTHS: [u8; 8] = [1, 1, 1, 2, 4, 4, 1, 1];
 

@@ -8,14 +8,14 @@ ghost use Rattle.base_bytes.specs.Pens.{pen, puts};
 ghost use Rattle.spec_notes.specs.Touched.{sameMessage};
 ghost use Rattle.spec_notes.specs.Sections.{messageNoted};
 ghost use Rattle.code_notes_messages.specs.MessageEntries.{messageEntries};
+use crate::message_rows;
+use base_bytes::pens::put_byte;
+use base_queue::Queue;
 use code_notes_entries::fields::put_fields;
 use code_notes_entries::old_places::old_place;
 use spec_calls::call::Call;
-use base_bytes::pens::put_byte;
-use spec_moves::parts::Posts;
 use spec_kernel::records::Message;
-use base_queue::Queue;
-use crate::message_rows;
+use spec_moves::parts::Posts;
 
 const MESSAGE_WIDTHS: [u8; 8] = [1, 1, 1, 2, 4, 4, 1, 1];
 

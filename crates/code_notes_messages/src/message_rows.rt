@@ -6,11 +6,11 @@ ghost use Rattle.spec_refusals.specs.Refusals.{is};
 ghost use Rattle.spec_notes.specs.Rows.{messageRow, messageWidths, messageFrom};
 ghost use Rattle.spec_notes.specs.Predicted.{predictedMessage};
 ghost use Rattle.spec_notes.specs.Touched.{sameMessage};
+use base_rows::rows::Row;
 use code_notes_entries::choices::either;
 use code_notes_entries::choices::one_if;
 use code_notes_entries::choices::word;
 use spec_calls::call::Call;
-use base_rows::rows::Row;
 use spec_kernel::records::Message;
 
 pub fn row_of(r: Message, place: u8) -> Row

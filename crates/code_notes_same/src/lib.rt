@@ -4,16 +4,16 @@ ghost use Rattle.spec_rules.specs.Tests.{allOf};
 ghost use Rattle.spec_notes.specs.Touched.{sameRow, sameThread, sameSemaphore, sameEvent, sameMessage};
 ghost use Rattle.spec_notes.specs.Same.{sameAll, sameQueue, sameNumbers, sameKernel};
 ghost use Rattle.code_notes_same.specs.OfRecords.{ofRecords};
-use spec_kernel::records::Event;
-use spec_kernel::records::Kernel;
-use spec_kernel::records::Message;
-use spec_kernel::records::Semaphore;
-use spec_kernel::records::Thread;
 use base_queue::Queue;
 use code_notes_events::event_rows;
 use code_notes_messages::message_rows;
 use code_notes_semaphores::semaphore_rows;
 use code_notes_thread_rows::thread_rows;
+use spec_kernel::records::Event;
+use spec_kernel::records::Kernel;
+use spec_kernel::records::Message;
+use spec_kernel::records::Semaphore;
+use spec_kernel::records::Thread;
 
 fn same_threads(a: [Thread; 32], b: [Thread; 32]) -> bool
     ensures { λ r. ⌜ r ≡ sameAll sameThread a b ⌝ }

@@ -5,9 +5,9 @@ ghost use mathlib.Core.Bool.{cond};
 ghost use lib.Dec.{eqb};
 ghost use Rattle.base_bytes.specs.Pens.{pen, puts};
 ghost use Rattle.code_notes_scheduler.specs.SchedulerEntry.{levelsNoted};
+use crate::scheduler_rows;
 use code_notes_entries::fields::put_unless_predicted;
 use spec_calls::call::Call;
-use crate::scheduler_rows;
 
 const SCHEDULER_WIDTHS: [u8; 8] = [1, 1, 1, 0, 0, 0, 0, 0];
 

@@ -4,8 +4,8 @@ ghost use Prim.Native.Nat.{_+_, _-_};
 ghost use mathlib.Core.Bool.{cond};
 ghost use Rattle.spec_notes.specs.Rows.{schedulerRow};
 ghost use Rattle.spec_notes.specs.Predicted.{predictedLevels};
-use spec_calls::call::Call;
 use base_rows::rows::Row;
+use spec_calls::call::Call;
 
 pub fn row_of(unscheduled: u8, critical: u8, runner: u8) -> Row
     ensures { λ x. ⌜ x .fields ≡ schedulerRow unscheduled critical runner ⌝ }

@@ -8,12 +8,12 @@ ghost use Rattle.spec_notes.specs.Rows.{semaphoreFrom, semaphoreWidths};
 ghost use Rattle.spec_notes.specs.Touched.{youngerSemaphore};
 ghost use Rattle.spec_notes.specs.Predicted.{predictedSemaphore};
 ghost use Rattle.spec_notes.specs.Back.{semaphoresBefore};
-use spec_calls::call::Call;
+use crate::semaphore_rows;
 use base_bytes::bytes::byte_at;
 use base_rows::rows::row_at;
 use base_rows::rows::used_by;
+use spec_calls::call::Call;
 use spec_kernel::records::Semaphore;
-use crate::semaphore_rows;
 
 const WIDTHS: [u8; 8] = [1, 2, 2, 4, 4, 0, 0, 0];
 

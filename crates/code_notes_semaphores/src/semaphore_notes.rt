@@ -6,23 +6,16 @@ ghost use Rattle.base_bytes.specs.Pens.{pen, puts};
 ghost use Rattle.spec_notes.specs.Touched.{changedSemaphore};
 ghost use Rattle.spec_notes.specs.Sections.{semaphoreNoted};
 ghost use Rattle.code_notes_semaphores.specs.SemaphoreEntries.{semaphoreEntries};
+use crate::semaphore_rows;
+use base_bytes::pens::put_byte;
 use code_notes_entries::fields::put_fields;
 use spec_calls::call::Call;
-use base_bytes::pens::put_byte;
 use spec_kernel::records::Semaphore;
-use crate::semaphore_rows;
 
 const SEMAPHORE_WIDTHS: [u8; 8] = [1, 2, 2, 4, 4, 0, 0, 0];
 
 // A semaphore before: its id, and what isn't as predicted of its record.
-fn put_semaphore(
-    log: &mut [u8],
-    at: usize,
-    i: u8,
-    c: Call,
-    old: Semaphore,
-    new: Semaphore,
-) -> usize
+fn put_semaphore(log: &mut [u8], at: usize, i: u8, c: Call, old: Semaphore, new: Semaphore) -> usize
     ensures { λ r. ⌜ pen (now (log .exit)) r ≡ puts (pen (now (log .entry)) at) (semaphoreNoted i c old new) ⌝ }
 {
     let before = semaphore_rows::row_of(old);

@@ -7,11 +7,11 @@ ghost use Rattle.spec_refusals.specs.Refusals.{is};
 ghost use Rattle.spec_notes.specs.Rows.{semaphoreRow, semaphoreWidths, semaphoreFrom};
 ghost use Rattle.spec_notes.specs.Predicted.{predictedSemaphore};
 ghost use Rattle.spec_notes.specs.Touched.{oneTickMore, youngerSemaphore, sameSemaphore};
+use base_rows::rows::Row;
 use code_notes_entries::choices::either;
 use code_notes_entries::choices::one_if;
 use code_notes_entries::choices::word;
 use spec_calls::call::Call;
-use base_rows::rows::Row;
 use spec_kernel::records::Semaphore;
 
 pub fn row_of(r: Semaphore) -> Row

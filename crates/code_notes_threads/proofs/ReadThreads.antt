@@ -24,7 +24,8 @@ use Rattle.code_notes_threads.specs.ReadThreads.{withEntry, entrySize}
 use Rattle.code_notes_entries.proofs.Fits.{below, row-whole}
 
 -- the records from i on, one after another
-pub map-next : {A B : Type 0} (f : A → B) (d : A) (l : List A) (i : ℕ) → i < length l → map f (drop i l) ≡ f (getD l i d) ∷ map f (drop (i + 1) l)
+pub map-next : {A B : Type 0} (f : A → B) (d : A) (l : List A) (i : ℕ) → i < length l
+    → map f (drop i l) ≡ f (getD l i d) ∷ map f (drop (i + 1) l)
 map-next f d l i h = rw (add-one, drop-cons l i d h)
 
 -- all that stands from p on
@@ -71,5 +72,6 @@ predicted-fit c r code a (p, f, d, t, y) =
 
 -- so the row that is read fits, and is all there as far as its widths go
 pub row-fitted : (c : Call) (r : Thread) (code flags : ℕ) (s : List ℕ) → c .a < 256 → Typed r → Bytes s
-    → fitted threadWidths (rowFrom threadWidths flags (predictedThread c r code) s) ≡ rowFrom threadWidths flags (predictedThread c r code) s
+    → fitted threadWidths (rowFrom threadWidths flags (predictedThread c r code) s) ≡ rowFrom threadWidths flags
+    (predictedThread c r code) s
 row-fitted c r code flags s a y h = row-whole threadWidths flags _ s h (predicted-fit c r code a y)

@@ -5,14 +5,14 @@ ghost use Rattle.spec_notes.specs.Touched.{youngerThread};
 ghost use Rattle.spec_notes.specs.Back.{threadsBefore};
 ghost use Rattle.code_notes_threads.specs.ReadThreads.{meantThreads, withEntry, withMarks, entrySize};
 use crate::marks::marked;
-use spec_calls::call::Call;
 use base_bytes::bytes::byte_at;
 use base_bytes::bytes::least;
 use base_rows::rows::row_at;
 use base_rows::rows::used_by;
-use spec_kernel::records::Thread;
-use code_notes_thread_rows::thread_rows;
 use code_kernel_find::by_id;
+use code_notes_thread_rows::thread_rows;
+use spec_calls::call::Call;
+use spec_kernel::records::Thread;
 
 // The records so far, who was touched, and who stood at each place of `places` and of the time queue: 255 is nobody.
 pub struct Threading {

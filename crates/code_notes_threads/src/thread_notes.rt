@@ -6,15 +6,15 @@ ghost use Rattle.base_bytes.specs.Pens.{pen, puts};
 ghost use Rattle.spec_notes.specs.Touched.{movesInPlace, changedThread};
 ghost use Rattle.spec_notes.specs.Sections.{entriesFrom, threadNoted};
 ghost use Rattle.code_notes_threads.specs.ThreadEntries.{isChanged, entryOf, entryIn};
+use base_bytes::pens;
+use base_queue::Queue;
+use code_kernel::records::no_thread;
 use code_notes_entries::fields::put_fields;
 use code_notes_entries::old_places::old_place;
-use spec_calls::call::Call;
-use base_bytes::pens;
-use spec_moves::parts::Threads;
-use spec_kernel::records::Thread;
-use code_kernel::records::no_thread;
-use base_queue::Queue;
 use code_notes_thread_rows::thread_rows;
+use spec_calls::call::Call;
+use spec_kernel::records::Thread;
+use spec_moves::parts::Threads;
 
 // A yield, and a priority that is set or reset, move a thread though its record may stay.
 fn moves_in_place(runner: u8, c: Call, t: u8) -> bool

@@ -4,8 +4,8 @@ ghost use mathlib.Core.List.{[], _∷_};
 ghost use Rattle.spec_refusals.specs.Refusals.{isOneOf, outside, unknown, badNumber, popsNothingAt};
 ghost use Rattle.code_calls.specs.Named.{badIdOf, hasWaitersOf, stopsCallerOf, blocksOf, noneFreeOf};
 ghost use Rattle.code_calls.specs.Named.{firstNumber, secondNumber, thirdNumber, numberFrom};
-use spec_calls::call::Call;
 use code_calls::named::Named;
+use spec_calls::call::Call;
 
 mod kinds;
 

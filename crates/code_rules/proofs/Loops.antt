@@ -41,7 +41,8 @@ module _ (key : ℕ → ℕ) (q : Queue) (n : ℕ) (s : n ≡ length (items q)) 
 abbrev pub Sweep : {A : Type 0} → Bool → (ℕ → A → Bool) → List A → ℕ → ℕ → Type 0
 Sweep all test records n i = (length records ≡ n) × (i ≤ n) × (all ≡ everyFrom test i (drop i records))
 
-module _ {A : Type 0} {all : Bool} (test : ℕ → A → Bool) (none : A) (records : List A) {n : ℕ} (i : ℕ) (w : Sweep all test records n i) where
+module _ {A : Type 0} {all : Bool} (test : ℕ → A → Bool) (none : A) (records : List A) {n : ℕ} (i : ℕ)
+    (w : Sweep all test records n i) where
   pub sweep-stops : i < n → test i (getD records i none) ≡ false → false ≡ all
   sweep-stops h p = rw (w .2, drop-cons records i none (omega arith), p)
 

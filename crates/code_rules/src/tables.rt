@@ -5,11 +5,11 @@ ghost use Rattle.base_queue.specs.Tables.{one, isPlaced, isOrderedFrom};
 ghost use Rattle.spec_kernel.specs.Places.{hasHome, isQueued};
 ghost use Rattle.spec_rules.specs.Tests.{isTicking};
 ghost use Rattle.code_rules.specs.Orders.{keyOf};
+use base_queue::Queue;
 use code_kernel::places;
+use code_kernel_find::by_id;
 use spec_kernel::records::Message;
 use spec_kernel::records::Thread;
-use base_queue::Queue;
-use code_kernel_find::by_id;
 
 // How often one that belongs, or doesn't, stands in a table.
 fn times(belongs: bool) -> usize

@@ -5,16 +5,16 @@ ghost use Rattle.code_semaphores.specs.Waiting.{Does};
 ghost use Rattle.spec_semaphores.specs.Semaphores.{withCount, withTicks, createSemaphore, destroySemaphore, makePeriodic, removePeriodic, pendSemaphore, raised, post, postSemaphore};
 use crate::waiting;
 use crate::waiting::Waiting;
+use code_kernel::records::no_semaphore;
+use code_kernel_find::by_id;
+use code_kernel_find::firsts;
+use code_kernel_find::free;
+use code_moves::states;
 use spec_calls::call::Call;
 use spec_kernel::records::Condition;
 use spec_kernel::records::Kernel;
 use spec_kernel::records::Semaphore;
 use spec_kernel::records::Wake;
-use code_kernel::records::no_semaphore;
-use code_kernel_find::free;
-use code_kernel_find::firsts;
-use code_kernel_find::by_id;
-use code_moves::states;
 
 pub fn with_semaphore(k: Kernel, i: u8, r: Semaphore) -> Kernel
     ensures { λ x. ⌜ x ≡ withSemaphore i r k ⌝ }

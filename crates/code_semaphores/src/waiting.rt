@@ -1,10 +1,10 @@
 // The part of the state that a post touches. It goes in and out where the ticks post, so that the rest of the state isn't copied.
 ghost use mathlib.Core.Path.{_≡_};
 ghost use Rattle.code_semaphores.specs.Waiting.{waitingOf, withWaiting, storing};
-use spec_moves::parts::Threads;
+use code_moves::states;
 use spec_kernel::records::Kernel;
 use spec_kernel::records::Semaphore;
-use code_moves::states;
+use spec_moves::parts::Threads;
 
 pub struct Waiting {
     pub threads: Threads,

@@ -8,19 +8,19 @@ ghost use Rattle.base_queue.specs.Queues.{items, pack};
 ghost use Rattle.spec_kernel.specs.Records.{noMessage};
 ghost use Rattle.spec_moves.specs.Moves.{relocate, threadIn};
 ghost use Rattle.spec_threads.specs.Threads.{born, blocked, awake, withPriority, block, createThread, owns, freedFrom, freeMessages, destroyThread, setPriority, resetPriority, yielded, sleep};
+use base_queue::Queue;
+use code_kernel::records::no_message;
+use code_kernel::records::no_thread;
+use code_kernel_find::by_id;
+use code_kernel_find::free;
+use code_moves::states;
 use spec_calls::call::Call;
-use spec_moves::parts::Threads;
 use spec_kernel::records::Condition;
 use spec_kernel::records::Kernel;
 use spec_kernel::records::Message;
 use spec_kernel::records::Thread;
 use spec_kernel::records::Wake;
-use code_kernel::records::no_message;
-use code_kernel::records::no_thread;
-use base_queue::Queue;
-use code_kernel_find::free;
-use code_kernel_find::by_id;
-use code_moves::states;
+use spec_moves::parts::Threads;
 
 // A new thread's record.
 fn born(priority: u8) -> Thread

@@ -4,18 +4,18 @@ ghost use mathlib.Core.List.{map};
 ghost use Rattle.spec_moves.specs.States.{each};
 ghost use Rattle.code_semaphores.specs.Waiting.{Does};
 ghost use Rattle.spec_time.specs.Time.{later, reasonAt, timeUp, due, aged, timePasses, pulse, pulseFrom, tick};
+use code_kernel_find::by_id;
+use code_moves::states;
+use code_semaphores::semaphores;
+use code_semaphores::waiting;
+use code_semaphores::waiting::Waiting;
 use spec_calls::call::Call;
-use spec_moves::parts::Threads;
 use spec_kernel::records::Condition;
 use spec_kernel::records::Kernel;
 use spec_kernel::records::Object;
 use spec_kernel::records::Thread;
 use spec_kernel::records::Wake;
-use code_semaphores::semaphores;
-use code_semaphores::waiting;
-use code_semaphores::waiting::Waiting;
-use code_kernel_find::by_id;
-use code_moves::states;
+use spec_moves::parts::Threads;
 
 fn reason_at(c: Condition) -> Wake
     ensures { λ w. ⌜ w ≡ reasonAt c ⌝ }

@@ -14,7 +14,8 @@ use Rattle.spec_kernel.specs.declared.records.Kernel.{Kernel}
 use Rattle.spec_kernel.specs.Records.{thread, semaphore}
 use Rattle.spec_calls.specs.declared.call.Call.{Call}
 use Rattle.spec_calls.specs.Kinds.{fromThread}
-use Rattle.spec_refusals.specs.Refusals.{unknown, interruptsOff, noCaller, badNumber, badId, isInChannel, notOwner, hasWaiters, notPeriodic, popsNothing}
+use Rattle.spec_refusals.specs.Refusals.{unknown, interruptsOff, noCaller, badNumber, badId}
+use Rattle.spec_refusals.specs.Refusals.{isInChannel, notOwner, hasWaiters, notPeriodic, popsNothing}
 use Rattle.spec_refusals.specs.Refusals.{blocksInRegion, noneFree, isOneOf, outside, refusals, firstThatApplies, numberOf}
 
 abbrev refuses : List (ℕ × Bool) → Bool

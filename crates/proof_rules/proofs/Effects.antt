@@ -42,7 +42,8 @@ unfolding effect unknown isKnown
 effect-of {k} {c} A P facts =
     let b = and-both (isKnown c) (unusedAreZero c) (not-false (isKnown c && unusedAreZero c) (A .known)) .0 in
     let (low, high) = and-both (ltb 0 (c .kind)) (leb (c .kind) 30) b in
-    fact-at (facts (λ e. absurd (omega (arith, ltb-true 0 (c .kind) low)))) (c .kind) (omega (arith, leb-true (c .kind) 30 high)) (omega arith)
+    fact-at (facts (λ e. absurd (omega (arith, ltb-true 0 (c .kind) low)))) (c .kind) (omega (arith, leb-true (c .kind) 30 high))
+    (omega arith)
 
 module _ {k : Kernel} {c : Call} (B : Before k) (A : Accepted k c) where
   pub effect-good : Good (effect k c)

@@ -69,7 +69,8 @@ received-fine F = record {
 }
 
 -- an id too large changes nothing
-file-any : {waited : ℕ → Bool} {k : Kernel} → Core waited k → (m : ℕ) {r : Message} → FineMessage (k .threads) r → Core waited (moveMessage m r k)
+file-any : {waited : ℕ → Bool} {k : Kernel} → Core waited k → (m : ℕ) {r : Message} → FineMessage (k .threads) r
+    → Core waited (moveMessage m r k)
 file-any {waited} {k} C m {r} F =
     cases (ltb m 64) (λ e. file-core C m (ltb-true m 64 e) r F) (λ e. rw (repost-past (postsOf k) m r (ltb-false m 64 e)) C)
 

@@ -6,7 +6,8 @@ use Rattle.spec_kernel.specs.declared.records.Kernel.{Kernel}
 use Rattle.spec_calls.specs.declared.call.Call.{Call}
 use Rattle.spec_calls.specs.Kinds.{rowOf, fromThread}
 use Rattle.spec_moves.specs.States.{withLevels}
-use Rattle.spec_regions.specs.Regions.{oneMore, pushUnscheduled, popUnscheduled, popAllUnscheduled, pushCritical, popCritical, popAllCritical}
+use Rattle.spec_regions.specs.Regions.{oneMore, pushUnscheduled, popUnscheduled}
+use Rattle.spec_regions.specs.Regions.{popAllUnscheduled, pushCritical, popCritical, popAllCritical}
 use Rattle.proof_rules.proofs.Core.{scheduler-core}
 use Rattle.proof_rules.proofs.Ends.{Good, Before}
 use Rattle.proof_rules.proofs.Accepted.{Accepted}

@@ -66,7 +66,8 @@ module _ {waited : ℕ → Bool} {k : Kernel} (C : Core waited k) (i : ℕ) wher
     unfolding post wake
     post-kept = go (semaphoreQueue k i) refl
       where
-        go : (q : List ℕ) → semaphoreQueue k i ≡ q → Core waited (postTo q i k) × (Runs k → Runs (postTo q i k)) × (untrue (postTo q i k) ≡ untrue k)
+        go : (q : List ℕ) → semaphoreQueue k i ≡ q
+            → Core waited (postTo q i k) × (Runs k → Runs (postTo q i k)) × (untrue (postTo q i k) ≡ untrue k)
         go [] e = (semaphore-core C i (raised (semaphore k i)) raised-fine (λ t w. absurd (none-waits e t w)), λ R. R, refl)
         go (t ∷ q) e =
             let b = live-semaphore C i l in

@@ -25,7 +25,8 @@ use Rattle.spec_calls.specs.Kinds.{fromThread}
 use Rattle.spec_refusals.specs.Refusals.{inRegion}
 use Rattle.spec_moves.specs.States.{moveThread}
 use Rattle.spec_threads.specs.Threads.{awake, blocked, block, wake}
-use Rattle.proof_rules.proofs.Core.{Fits, FineThread, Core, untrue, live-thread, live-semaphore, condition-of, live-waiter, each-thread, place-core, place-calm}
+use Rattle.proof_rules.proofs.Core.{Fits, FineThread, Core, untrue, live-thread}
+use Rattle.proof_rules.proofs.Core.{live-semaphore, condition-of, live-waiter, each-thread, place-core, place-calm}
 use Rattle.proof_rules.proofs.Ends.{Runs, Good, Before}
 use Rattle.proof_rules.proofs.Accepted.{Accepted, called}
 
@@ -39,7 +40,8 @@ module _ {S : List Semaphore} {waited : ℕ → Bool} {r : Thread} (F : FineThre
   }
 
   -- or blocks
-  pub blocked-fine : (condition : Condition) (timeout : ℕ) → Fits S waited timeout condition → FineThread S waited (blocked condition timeout r)
+  pub blocked-fine : (condition : Condition) (timeout : ℕ) → Fits S waited timeout condition
+      → FineThread S waited (blocked condition timeout r)
   blocked-fine condition timeout f = record {
     living = λ _. record { priority = F .living l .priority; reply = inr refl; condition = f };
     gone = λ e. absurd (false≢true (sym e ∙ l));

@@ -32,10 +32,13 @@ use Rattle.spec_answers.specs.Steps.{answer}
 use Rattle.spec_answers.specs.Logs.{logged, stateAfter, noteFor, recorded, logAfter, undone}
 
 -- The call run again on a log of 2,048 bytes, which has room for any note: s is what comes back.
-module _ (k : Kernel) (bytes : List ℕ) (sixteen : length bytes ≡ 16) (all : length (k .threads) ≡ 32) (s : Logged) (e : s ≡ recorded k bytes (replicate 2048 0) 0) where
+module _ (k : Kernel) (bytes : List ℕ) (sixteen : length bytes ≡ 16) (all : length (k .threads) ≡ 32) (s : Logged)
+    (e : s ≡ recorded k bytes (replicate 2048 0) 0) where
   room-for-any : numberOf k (callOf bytes) ≡ 0 → 0 + length (noteFor k bytes) ≤ length {A = ℕ} (replicate 2048 0)
   unfolding noteFor
-  room-for-any n = rw (length-replicate, ← note-in k bytes all n) (omega (arith, note-short k bytes (stateAfter k bytes) (valueOf k (callOf bytes)) sixteen))
+  room-for-any n =
+      rw (length-replicate, ← note-in k bytes all n)
+      (omega (arith, note-short k bytes (stateAfter k bytes) (valueOf k (callOf bytes)) sixteen))
 
   pub run-refused : (s .answer .number ≡ 0 → ⊥) → eqb (numberOf k (callOf bytes)) 0 ≡ false
   unfolding recorded
@@ -45,7 +48,8 @@ module _ (k : Kernel) (bytes : List ℕ) (sixteen : length bytes ≡ 16) (all : 
       absurd (h (ap (λ (x : Logged). x .answer .number) e ∙ rw (z, fits)))) (λ z. z)
 
   module _ (z : s .answer .number ≡ 0) where
-    pub run-accepted : (numberOf k (callOf bytes) ≡ 0) × (s ≡ logged (answer 0 (valueOf k (callOf bytes)) (stateAfter k bytes .runner)) (stateAfter k bytes) (0 + length (noteFor k bytes)))
+    pub run-accepted : (numberOf k (callOf bytes) ≡ 0) ×
+        (s ≡ logged (answer 0 (valueOf k (callOf bytes)) (stateAfter k bytes .runner)) (stateAfter k bytes) (0 + length (noteFor k bytes)))
     unfolding recorded
     run-accepted =
         cases (eqb (numberOf k (callOf bytes)) 0)
@@ -68,7 +72,8 @@ module _ (k : Kernel) (bytes : List ℕ) (sixteen : length bytes ≡ 16) (all : 
         let h = room-for-any n in
         let v : s .used ≡ 0 + length (noteFor k bytes) = ap (λ (x : Logged). x .used) a in
         let u : s .used ≡ length (noteFor k bytes) = omega (arith, v) in
-        let g : log ≡ noteFor k bytes ++ drop (0 + length (noteFor k bytes)) (replicate 2048 0) = f ∙ rw (y, noted-room (replicate 2048 0) 0 (noteFor k bytes) h) in
+        let g : log ≡ noteFor k bytes ++ drop (0 + length (noteFor k bytes)) (replicate 2048 0) =
+        f ∙ rw (y, noted-room (replicate 2048 0) 0 (noteFor k bytes) h) in
         (rw (g, length-append, u) (omega arith), rw (g, u) (take-at (noteFor k bytes) _ _ refl), u)
 
 module _ (k : Kernel) (bytes : List ℕ) (end : Kernel) (note : List ℕ) where
@@ -170,7 +175,8 @@ module _ (log : List ℕ) (used : ℕ) (h : hasLast log used ≡ true) where
   -- the note that the code lends is the last one
   pub undone-part : (k : Kernel) (n : ℕ) → keepsRules k ≡ true → n ≡ lastLength log used
       → (let note = take (used - (used - n)) (drop (used - n) log) in
-      cond (undoesNote k note) (logged (answer 0 255 (backFrom k note .runner)) (backFrom k note) (used - n)) (logged (answer 15 255 (k .runner)) k used))
+      cond (undoesNote k note) (logged (answer 0 255 (backFrom k note .runner)) (backFrom k note) (used - n))
+      (logged (answer 15 255 (k .runner)) k used))
       ≡ undone k log used
   unfolding undone undoes
   undone-part k n r e = rw (e, last-part, r, h)

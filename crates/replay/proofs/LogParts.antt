@@ -17,17 +17,20 @@ use Rattle.spec_answers.specs.Logs.{noteFor, recorded, logAfter, partAfter, cal
 
 module _ (k : Kernel) (bytes log : List ℕ) (used : ℕ) where
   -- either a note was written, or nothing
-  wrote : (P : ℕ → List ℕ → List ℕ → Type 0) → P (ends log used (noteFor k bytes)) (noted log used (noteFor k bytes)) (shown log used (noteFor k bytes)) → P used log []
+  wrote : (P : ℕ → List ℕ → List ℕ → Type 0)
+      → P (ends log used (noteFor k bytes)) (noted log used (noteFor k bytes)) (shown log used (noteFor k bytes)) → P used log []
       → P (calledWith k bytes log used .used) (logCalled k bytes log used) (partCalled k bytes log used)
   unfolding calledWith logCalled partCalled recorded logAfter partAfter ends
   wrote P note none =
       cases (keepsRules k)
       (λ r. cases (eqb (numberOf k (callOf bytes)) 0)
-      (λ n. cases (room log used (noteFor k bytes)) (λ e. rw (r, n, e) (rw e at note)) (λ e. rw (r, n, e) (rw e at note))) (λ n. rw (r, n) none)) (λ r. rw r none)
+      (λ n. cases (room log used (noteFor k bytes)) (λ e. rw (r, n, e) (rw e at note)) (λ e. rw (r, n, e) (rw e at note)))
+      (λ n. rw (r, n) none)) (λ r. rw r none)
 
   pub part-between : take (calledWith k bytes log used .used - used) (drop used (logCalled k bytes log used)) ≡ partCalled k bytes log used
   part-between =
-      wrote (λ u l p. take (u - used) (drop used l) ≡ p) (shown-between log used (noteFor k bytes)) (let e : used - used ≡ 0 = omega arith in rw e)
+      wrote (λ u l p. take (u - used) (drop used l) ≡ p) (shown-between log used (noteFor k bytes))
+      (let e : used - used ≡ 0 = omega arith in rw e)
 
   pub part-still : calledWith k bytes log used .used ≤ used → partCalled k bytes log used ≡ []
   part-still = wrote (λ u l p. u ≤ used → p ≡ []) (shown-still log used (noteFor k bytes)) (λ _. refl)

@@ -4,10 +4,10 @@ ghost use Prim.Native.Nat.{_+_, _<_};
 ghost use lib.ListN.{length};
 ghost use denote.Ref.{ptr};
 ghost use Rattle.spec_answers.specs.Logs.{calledWith, logCalled, partCalled};
-use spec_answers::Logged;
-use spec_kernel::records::Kernel;
 use code_answers::recorded;
 use code_answers::refused;
+use spec_answers::Logged;
+use spec_kernel::records::Kernel;
 
 // Sixteen bytes on any state whatever, with any log.
 pub fn called(k: Kernel, bytes: [u8; 16], log: &mut [u8], used: usize) -> Logged

@@ -4,18 +4,18 @@ ghost use mathlib.Core.Bool.{true, cond};
 ghost use Rattle.spec_notes.specs.Undoes.{backFrom, levelsFit, yieldsAgain, undoesNote};
 ghost use Rattle.spec_answers.specs.Steps.{answer};
 ghost use Rattle.spec_answers.specs.Logs.{logged, undone};
-use spec_answers::Answer;
-use spec_answers::Logged;
-use code_calls::call;
 use base_bytes::bytes::same_bytes;
-use spec_kernel::records::Kernel;
+use code_answers::recorded;
+use code_answers::refused;
+use code_calls::call;
 use code_notes::note::MOST;
 use code_notes_back::frames;
 use code_notes_back::frames::Decoded;
 use code_notes_back::last;
 use code_notes_back::state_back;
-use code_answers::recorded;
-use code_answers::refused;
+use spec_answers::Answer;
+use spec_answers::Logged;
+use spec_kernel::records::Kernel;
 
 // Whether the state, with the call run again, yields the end state and the note.
 fn yields_again(old: Kernel, bytes: [u8; 16], end: Kernel, note: &[u8]) -> bool

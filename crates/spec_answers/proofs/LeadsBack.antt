@@ -120,7 +120,8 @@ abbrev Chain : List ℕ → Point → List Point → Type 0
 Chain log p [] = Unit {0}
 Chain log p (q ∷ l) = Link log p q × Chain log q l
 
-chain-link : (log : List ℕ) (d p : Point) (l : List Point) → Chain log p l → (j : ℕ) → j < length l → Link log (getD (p ∷ l) j d) (getD l j d)
+chain-link : (log : List ℕ) (d p : Point) (l : List Point) → Chain log p l → (j : ℕ) → j < length l
+    → Link log (getD (p ∷ l) j d) (getD l j d)
 chain-link log d p [] C j b = absurd (omega arith)
 chain-link log d p (q ∷ l) C zero b = C .0
 chain-link log d p (q ∷ l) C (suc j) b = chain-link log d q l (C .1) j (omega arith)

@@ -9,7 +9,8 @@ use Rattle.spec_kernel.specs.Places.{semaphoreQueue}
 use Rattle.spec_calls.specs.declared.call.Call.{Call}
 use Rattle.spec_threads.specs.Threads.{block, wake, createThread, freeMessages, destroyThread, setPriority, resetPriority, yielded, sleep}
 use Rattle.spec_regions.specs.Regions.{pushUnscheduled, popUnscheduled, popAllUnscheduled, pushCritical, popCritical, popAllCritical}
-use Rattle.spec_semaphores.specs.Semaphores.{createSemaphore, destroySemaphore, makePeriodic, removePeriodic, pendSemaphore, postTo, post, postSemaphore}
+use Rattle.spec_semaphores.specs.Semaphores.{createSemaphore, destroySemaphore, makePeriodic, removePeriodic}
+use Rattle.spec_semaphores.specs.Semaphores.{pendSemaphore, postTo, post, postSemaphore}
 use Rattle.spec_events.specs.Events.{workedOut, loadEvent, pendEvent, setBit, clearBit}
 use Rattle.spec_messages.specs.Messages.{createMessage, destroyMessage, handOver, postMessage, receive, pendMessage}
 use Rattle.spec_time.specs.Time.{pulse, pulseFrom, tick}
@@ -47,7 +48,9 @@ module _ (k : Kernel) (c : Call) where
   runners l = map (λ x. x .does k c .runner) l
 
   same-runners : runners effectsOfKinds ≡ map (λ x. k .runner) effectsOfKinds
-  unfolding tick createThread freeMessages destroyThread setPriority resetPriority yielded sleep block pushUnscheduled popUnscheduled popAllUnscheduled pushCritical popCritical popAllCritical createSemaphore destroySemaphore makePeriodic removePeriodic pendSemaphore postSemaphore workedOut loadEvent pendEvent setBit clearBit createMessage destroyMessage handOver postMessage receive pendMessage
+  unfolding tick createThread freeMessages destroyThread setPriority resetPriority yielded sleep block pushUnscheduled popUnscheduled
+      popAllUnscheduled pushCritical popCritical popAllCritical createSemaphore destroySemaphore makePeriodic removePeriodic pendSemaphore
+      postSemaphore workedOut loadEvent pendEvent setBit clearBit createMessage destroyMessage handOver postMessage receive pendMessage
   same-runners = simp (cond-runner, post-runner, pulses-runner, both)
 
   runner-at : (l : List Kind) → runners l ≡ map (λ x. k .runner) l → (i : ℕ) → getD l i noKind .does k c .runner ≡ k .runner

@@ -24,8 +24,10 @@ use Rattle.spec_notes.proofs.Yields.{call-within}
 use Rattle.spec_notes.proofs.Undoing.{state-found, last-sizes, yields-last, yields-undoes, undo-exactly}
 use Rattle.spec_answers.specs.declared.Logged.{Logged}
 use Rattle.spec_answers.specs.Steps.{Stepped, answer, accepted, refused, step, called}
-use Rattle.spec_answers.specs.Logs.{logged, stateAfter, noteFor, recorded, logAfter, partAfter, calledWith, logCalled, partCalled, backAt, undone}
-use Rattle.spec_answers.specs.Promises.{ThirteenExactly, AnsweredAlike, RefusalLeavesLog, UndoneExactly, UndoneIsThat, UndoRefused, NotesAreShort}
+use Rattle.spec_answers.specs.Logs.{logged, stateAfter, noteFor, recorded, logAfter}
+use Rattle.spec_answers.specs.Logs.{partAfter, calledWith, logCalled, partCalled, backAt, undone}
+use Rattle.spec_answers.specs.Promises.{ThirteenExactly, AnsweredAlike, RefusalLeavesLog}
+use Rattle.spec_answers.specs.Promises.{UndoneExactly, UndoneIsThat, UndoRefused, NotesAreShort}
 use Rattle.spec_answers.proofs.Kept.{never-given, number-is}
 
 never-13 : (k : Kernel) (c : Call) → numberOf k c ≡ 13 → ⊥
@@ -51,7 +53,8 @@ module _ (k : Kernel) (bytes log : List ℕ) (used : ℕ) (P : Logged → List �
   Left n s = P (logged (answer n 255 (k .runner)) k used) log [] s
 
   -- on a state that keeps the rules a call is accepted, or finds no room, or is refused
-  pub one-of-three : (number ≡ 0 → room log used note ≡ true → Written) → (number ≡ 0 → room log used note ≡ false → Left 13 (accepted k (callOf bytes)))
+  pub one-of-three : (number ≡ 0 → room log used note ≡ true → Written)
+      → (number ≡ 0 → room log used note ≡ false → Left 13 (accepted k (callOf bytes)))
       → ((number ≡ 0 → ⊥) → Left number (refused number k))
       → P (recorded k bytes log used) (logAfter k bytes log used) (partAfter k bytes log used) (step k (callOf bytes))
   unfolding recorded logAfter partAfter step noted shown
@@ -61,7 +64,8 @@ module _ (k : Kernel) (bytes log : List ℕ) (used : ℕ) (P : Logged → List �
       (λ e. rw e (r (eqb-false number 0 e)))
 
   -- or the state breaks a rule
-  one-of-four : (number ≡ 0 → room log used note ≡ true → Written) → (number ≡ 0 → room log used note ≡ false → Left 13 (accepted k (callOf bytes)))
+  one-of-four : (number ≡ 0 → room log used note ≡ true → Written)
+      → (number ≡ 0 → room log used note ≡ false → Left 13 (accepted k (callOf bytes)))
       → ((number ≡ 0 → ⊥) → Left number (refused number k))
       → P (logged (answer 14 255 255) k used) log [] (record { answer = answer 14 255 255; kernel = k })
       → P (calledWith k bytes log used) (logCalled k bytes log used) (partCalled k bytes log used) (called k bytes)

@@ -20,7 +20,8 @@ NoneOf n (suc m) = NoneOf n m × (n ≡ suc m → ⊥)
 
 pub none-of : (n m : ℕ) → NoneOf n m → n ≤ m → n ≡ 0
 none-of n zero h l = omega arith
-none-of n (suc m) h l = cases (eqb n (suc m)) (λ e. absurd (h .1 (eqb-true n (suc m) e))) (λ e. none-of n m (h .0) (omega (arith, eqb-false n (suc m) e)))
+none-of n (suc m) h l =
+    cases (eqb n (suc m)) (λ e. absurd (h .1 (eqb-true n (suc m) e))) (λ e. none-of n m (h .0) (omega (arith, eqb-false n (suc m) e)))
 
 -- the default, wherever it is read
 getD-same : {A : Type 0} (m n : ℕ) (a : A) → getD (replicate m a) n a ≡ a

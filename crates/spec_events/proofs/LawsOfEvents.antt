@@ -59,7 +59,8 @@ pub record WorkedOut (k k′ : Kernel) : Type 0 where
   -- they leave the time queue, where the others keep their order
   pub time : timeQueue k′ ≡ withoutAll (waiters k k′) (timeQueue k)
   -- who stood in the queue of a TRUE event is awake, as met
-  pub woken : (t i : ℕ) → i < 8 → isMet k′ i ≡ true → 0 < count t (eventQueue k i) → thread k′ t ≡ readied Wake.Met (thread k t .reply) (thread k t)
+  pub woken : (t i : ℕ) → i < 8 → isMet k′ i ≡ true → 0 < count t (eventQueue k i)
+      → thread k′ t ≡ readied Wake.Met (thread k t .reply) (thread k t)
   -- and nobody else's record changes
   pub others : (t : ℕ) → ((i : ℕ) → i < 8 → isMet k′ i ≡ true → count t (eventQueue k i) ≡ 0) → thread k′ t ≡ thread k t
   -- nothing else but events and bits does
@@ -99,13 +100,21 @@ module _ (met : ℕ → Bool) {p : Threads} (S : Standing p) (t : ℕ) where
       let d = rw count-append at c in
       cases (ltb 0 (count t l))
       (λ e. cases (met i)
-      (λ m. record { event = i; from = omega arith; to = omega arith; holds = m; there = ltb-true 0 (count t (atHomeIn p (eventHome i))) (rw m at e) })
+      (λ m. record {
+        event = i;
+        from = omega arith;
+        to = omega arith;
+        holds = m;
+        there = ltb-true 0 (count t (atHomeIn p (eventHome i)))
+            (rw m at e);
+      })
       (λ m. absurd (false≢true (rw m at e))))
       (λ e. let W = waiter-waits (suc i) n (omega (arith, ltb-false)) in
       record { event = W .event; from = omega (arith, W .from); to = omega (arith, W .to); holds = W .holds; there = W .there })
 
   -- who waits for one is among them
-  waits-waiter : (i n j : ℕ) → i ≤ j → j < i + n → met j ≡ true → 0 < count t (atHomeIn p (eventHome j)) → 0 < count t (waitersFrom met p i n)
+  waits-waiter : (i n j : ℕ) → i ≤ j → j < i + n → met j ≡ true → 0 < count t (atHomeIn p (eventHome j))
+      → 0 < count t (waitersFrom met p i n)
   unfolding waitersFrom
   waits-waiter i zero j a b m c = absurd (omega arith)
   waits-waiter i (suc n) j a b m c =
@@ -164,7 +173,8 @@ module _ (events : List Event) (bits : ℕ) where
     line-later i j b =
         let A = each-woken asMet (atHomeIn p (eventHome i)) S (line-called i) in
         A .queues (eventHome j) (omega arith)
-        ∙ keep-all (atHomeIn p (eventHome j)) (λ t c. rw (line-absent S t (eventHome i) (λ z. omega (arith, line-home S t (eventHome j) c))))
+        ∙ keep-all (atHomeIn p (eventHome j))
+        (λ t c. rw (line-absent S t (eventHome i) (λ z. omega (arith, line-home S t (eventHome j) c))))
 
     waiters-later : (i j n : ℕ) → i < j → waitersFrom met (wokenIn (eventHome i) p) j n ≡ waitersFrom met p j n
     unfolding waitersFrom
@@ -197,14 +207,16 @@ module _ (events : List Event) (bits : ℕ) where
     uncalled : (t : ℕ) → ((i : ℕ) → i < 8 → met i ≡ true → count t (eventQueue k i) ≡ 0) → count t called ≡ 0
     uncalled t h =
         cases (ltb 0 (count t called))
-        (λ e. let W = waiter-waits met S t 0 8 (ltb-true 0 _ e) in absurd (omega (arith, h (W .event) (omega (arith, W .to)) (W .holds), W .there)))
+        (λ e. let W = waiter-waits met S t 0 8 (ltb-true 0 _ e) in absurd
+        (omega (arith, h (W .event) (omega (arith, W .to)) (W .holds), W .there)))
         (λ e. omega (arith, ltb-false))
 
     -- a queue that is no TRUE event's is as it was
     queue-stays : (h : ℕ) → 256 ≤ h → ((i : ℕ) → i < 8 → met i ≡ true → h ≡ eventHome i → ⊥) → atHome after h ≡ atHome k h
     queue-stays h b ne =
         all-woken .queues h b
-        ∙ keep-all (atHome k h) (λ t c. rw (uncalled t (λ i s m. line-absent S t (eventHome i) (λ z. ne i s m (sym (line-home S t h c) ∙ z)))))
+        ∙ keep-all (atHome k h)
+        (λ t c. rw (uncalled t (λ i s m. line-absent S t (eventHome i) (λ z. ne i s m (sym (line-home S t h c) ∙ z)))))
 
     works-out : WorkedOut k after
     unfolding workedOut

@@ -37,7 +37,9 @@ make-message k m r e b =
 module _ (k : Kernel) (c : Call) (e : length (k .messages) ≡ 64) where
   -- A new message belongs to its creator, who holds it and is its sender [01, calls: Message 1; state 6.4].
   pub create-message-makes : freeMessage k < 64
-      → MadeMessage (freeMessage k) (record { live = true; owner = k .runner; sender = k .runner; kind = c .b; size = c .c; address = c .d; channel = 0 }) k (createMessage k c)
+      → MadeMessage (freeMessage k)
+      (record { live = true; owner = k .runner; sender = k .runner; kind = c .b; size = c .c; address = c .d; channel = 0 }) k
+      (createMessage k c)
   unfolding createMessage
   create-message-makes b = make-message k (freeMessage k) _ e b
 

@@ -40,7 +40,8 @@ module _ (k : Kernel) (t mask : ℕ) where
   mine = keep (λ m. isFor t mask (message k m)) (items (k .posted))
 
   -- who stands in a channel has it
-  on-channel : (m c : ℕ) → 0 < count m (channel k t c) → (message k m .owner ≡ t) × (message k m .channel ≡ c) × (0 < count m (items (k .posted)))
+  on-channel : (m c : ℕ) → 0 < count m (channel k t c)
+      → (message k m .owner ≡ t) × (message k m .channel ≡ c) × (0 < count m (items (k .posted)))
   on-channel m c p =
       let (e, q) = kept (λ u. onChannel t c (message k u)) (items (k .posted)) p in
       let (o, d) = and-eq-true-iff (eqb (message k m .owner) t) (eqb (message k m .channel) c) .0 e in
@@ -59,7 +60,8 @@ module _ (k : Kernel) (t mask : ℕ) where
       sym (rw keep-keep
       (keep-same (items (k .posted)) λ m _.
       cases (eqb (message k m .channel) c)
-      (λ z. let y : masks mask (message k m .channel) ≡ true = rw (eqb-true (message k m .channel) c z) e in simp (z, y, and-true, and-self))
+      (λ z. let y : masks mask (message k m .channel)
+      ≡ true = rw (eqb-true (message k m .channel) c z) e in simp (z, y, and-true, and-self))
       (λ z. simp (z, and-false))))
 
   -- where every masked channel is empty, none
@@ -162,7 +164,9 @@ module _ (k : Kernel) (F : Filed (postsOf k)) (call : Call) where
         rw (pend-value, ne-eqb m 255 (λ z. omega arith))
         (record {
           rest = held-leaves k F m id r refl t c some ∙ rw oldest (without-first m l (rw oldest at once));
-          channels = λ u d b ne. held-leaves k F m id r refl u d b ∙ channel-absent k F m u d (elsewhere (message k m) u d (λ x y. ne (x ∙ o) (y ∙ h)));
+          channels =
+              λ u d b ne. held-leaves k F m id r refl u d b
+              ∙ channel-absent k F m u d (elsewhere (message k m) u d (λ x y. ne (x ∙ o) (y ∙ h)));
           itself = repost-same (postsOf k) m r (F .count) id ∙ rw o;
           others = λ n ne. repost-other (postsOf k) m r ne;
           only = file-only m r k;
@@ -173,7 +177,8 @@ module _ (k : Kernel) (F : Filed (postsOf k)) (call : Call) where
     pub pend-message-blocks : Standing (threadsOf k) → Runnable (thread k (k .runner))
         → Blocked (ForMessage (call .b)) (call .c) nowhere (k .runner) k (pendMessage k call)
     unfolding pendMessage
-    pend-message-blocks S R = rw (next-none k (k .runner) (call .b) none) (block-blocks k S R (ForMessage (call .b)) (call .c) refl (omega arith))
+    pend-message-blocks S R =
+        rw (next-none k (k .runner) (call .b) none) (block-blocks k S R (ForMessage (call .b)) (call .c) refl (omega arith))
 
     pub pend-message-leaves : OnlyThreads k (pendMessage k call)
     unfolding pendMessage
@@ -217,13 +222,16 @@ module _ (k : Kernel) (F : Filed (postsOf k)) (call : Call) (live : message k (c
   id : m < 64
   id = message-id F m live
 
-  pub post-appends : 0 < call .c → awaits (thread k (call .b) .condition) (call .c) ≡ false → Posted m (call .b) (call .c) k (postMessage k call)
+  pub post-appends : 0 < call .c → awaits (thread k (call .b) .condition) (call .c) ≡ false
+      → Posted m (call .b) (call .c) k (postMessage k call)
   unfolding postMessage
   post-appends some unawaited =
       let r = handed (call .b) (k .runner) (call .c) (message k m) in
       rw (mod-eq-of-lt thread-byte, mod-eq-of-lt channel-byte, unawaited)
       (record {
-        last = repost-joins-channel (postsOf k) m r F id (rw (live, lt-ltb 0 (call .c) some)) ∙ rw (held-absent k F m held (call .b) (call .c));
+        last =
+            repost-joins-channel (postsOf k) m r F id (rw (live, lt-ltb 0 (call .c) some))
+            ∙ rw (held-absent k F m held (call .b) (call .c));
         channels = λ u d ne. repost-leaves-channel (postsOf k) m r F id u d (elsewhere r u d ne) ∙ held-absent k F m held u d;
         itself = repost-same (postsOf k) m r (F .count) id;
         others = λ n ne. repost-other (postsOf k) m r ne;

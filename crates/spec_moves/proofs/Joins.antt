@@ -27,7 +27,8 @@ placeAbove key rank l = placeBehind (λ u. ltb rank (key u)) l
 
 -- a loop that looks for it among the first n of a store, at place i: it is not among the first i
 abbrev pub Seek : (ℕ → ℕ) → ℕ → List ℕ → ℕ → ℕ → Type 0
-Seek key rank at n i = (length at ≡ 64) × (n ≤ 64) × (i ≤ n) × (placeAbove key rank (take n at) ≡ i + placeAbove key rank (drop i (take n at)))
+Seek key rank at n i =
+    (length at ≡ 64) × (n ≤ 64) × (i ≤ n) × (placeAbove key rank (take n at) ≡ i + placeAbove key rank (drop i (take n at)))
 
 module _ (key : ℕ → ℕ) (rank : ℕ) (q : Queue) (n : ℕ) (s : n ≡ length (items q)) where
   pub seek-starts : length (q .at) ≡ 64 → Seek key rank (q .at) n 0
@@ -58,6 +59,7 @@ module _ (x : ℕ) (q out : Queue) (e : out ≡ pack (without x (items q))) wher
     leaves b = rw b e
 
     -- and that it joins again behind its equals
-    pub joins : stays ≡ true → (r : Queue) (i : ℕ) → i ≡ placeBehind after (items out) → r ≡ pack (roomFor i x (items out)) → r ≡ rejoined stays after x q
+    pub joins : stays ≡ true → (r : Queue) (i : ℕ) → i ≡ placeBehind after (items out) → r ≡ pack (roomFor i x (items out))
+        → r ≡ rejoined stays after x q
     unfolding roomFor moved
     joins b r i p d = rw (d, p, e, items-pack, behind-place, b)

@@ -14,13 +14,15 @@ use Rattle.base_queue.specs.Lists.{keep, isNot, without, count, behind, Ordered
 use Rattle.base_queue.specs.Queues.{items, pack, Tidy}
 use Rattle.base_queue.specs.Tables.{one, Placed, moved}
 use Rattle.base_queue.proofs.Queues.{items-pack, tidy-pack}
-use Rattle.base_queue.proofs.Counts.{same, kept, keep-same, keep-without, keep-past, count-without-same, count-without-other, not-without, pigeon, behind-last}
+use Rattle.base_queue.proofs.Counts.{same, kept, keep-same, keep-without, keep-past}
+use Rattle.base_queue.proofs.Counts.{count-without-same, count-without-other, not-without, pigeon, behind-last}
 use Rattle.base_queue.proofs.Orders.{ordered-keep, ordered-keys, keep-behind}
 use Rattle.base_queue.proofs.Tables.{placed-once, placed-past, placed-short, moved-placed, moved-ordered, keep-moved}
 use Rattle.spec_moves.specs.Moves.{hasRoom, rejoined}
 
 -- nobody stands twice and all are below n: once x, below n too, has left, fewer than n are there
-pub without-short : (n x : ℕ) (l : List ℕ) → ((u : ℕ) → count u l ≤ 1) → ((u : ℕ) → n ≤ u → count u l ≡ 0) → x < n → length (without x l) < n
+pub without-short : (n x : ℕ) (l : List ℕ) → ((u : ℕ) → count u l ≤ 1) → ((u : ℕ) → n ≤ u → count u l ≡ 0) → x < n
+    → length (without x l) < n
 without-short n x l once past h =
     pigeon n (x ∷ without x l)
     (λ u. cases (eqb x u) (λ e. rw (← eqb-true x u e, same, count-without-same x l) (omega arith))

@@ -53,7 +53,8 @@ low-home : (r : Thread) → homeOf r < 256 → homeOf r ≡ r .priority
 unfolding homeOf
 low-home r e = go (r .live) (r .condition) e
   where
-    go : (b : Bool) (c : Condition) → cond b (homeFor c (r .priority)) nowhere < 256 → cond b (homeFor c (r .priority)) nowhere ≡ r .priority
+    go : (b : Bool) (c : Condition) → cond b (homeFor c (r .priority)) nowhere < 256
+        → cond b (homeFor c (r .priority)) nowhere ≡ r .priority
     go true Ready h = refl
     go true Asleep h = absurd (omega arith)
     go true (ForSemaphore i) h = absurd (omega arith)
@@ -73,7 +74,8 @@ module _ (p : Threads) (t : ℕ) (r : Thread) where
 
   -- the state that a move gives
   abbrev newThreads : Threads
-  newThreads = record { records = set (p .records) t r; places = rejoined (hasHome r) (ranksAfter (p .records) r) t (p .places); time = newTime }
+  newThreads =
+      record { records = set (p .records) t r; places = rejoined (hasHome r) (ranksAfter (p .records) r) t (p .places); time = newTime }
 
   moves : t < 32 → relocate t r p ≡ newThreads
   unfolding relocate
@@ -160,13 +162,15 @@ module _ (p : Threads) (t : ℕ) (r : Thread) (S : Standing p) where
   pub relocate-standing : Standing (relocate t r p)
   relocate-standing =
       either p t r Standing
-      (λ h. standing (newThreads p t r) (length-set (p .records) t r ∙ S .count) (table-moved (places-table p S) t (inside p S h) r) (time-moved h)) S
+      (λ h. standing (newThreads p t r) (length-set (p .records) t r ∙ S .count) (table-moved (places-table p S) t (inside p S h) r)
+      (time-moved h)) S
 
   module _ (h : t < 32) where
     -- it joins its list or queue behind its equals
     pub relocate-joins : hasHome r ≡ true
         → atHomeIn (relocate t r p) (homeOf r) ≡ behind (ranksAfter (p .records) r) t (without t (atHomeIn p (homeOf r)))
-    relocate-joins e = rw (moves p t r h) (table-joins (places-table p S) t (inside p S h) r (λ a. eqb (homeOf a) (homeOf r)) e (same (homeOf r)))
+    relocate-joins e =
+        rw (moves p t r h) (table-joins (places-table p S) t (inside p S h) r (λ a. eqb (homeOf a) (homeOf r)) e (same (homeOf r)))
 
     -- of a ready thread: last in its priority's list
     pub relocate-last : homeOf r ≡ r .priority → r .priority < 256

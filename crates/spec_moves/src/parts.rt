@@ -1,7 +1,7 @@
 // The parts of the state that the two moves touch; their code is in `moving`.
+use base_queue::Queue;
 use spec_kernel::records::Message;
 use spec_kernel::records::Thread;
-use base_queue::Queue;
 
 // The part of the state that threads move in.
 pub struct Threads {

@@ -20,10 +20,12 @@ use Rattle.spec_kernel.specs.declared.records.Message.{Message}
 use Rattle.spec_kernel.specs.Records.{noThread, noSemaphore, noEvent, noMessage}
 use Rattle.spec_calls.specs.declared.call.Call.{Call}
 use Rattle.spec_refusals.specs.Refusals.{is}
-use Rattle.spec_notes.specs.Rows.{threadFrom, threadWidths, semaphoreFrom, semaphoreWidths, eventFrom, eventWidths, messageFrom, messageWidths}
+use Rattle.spec_notes.specs.Rows.{threadFrom, threadWidths, semaphoreFrom, semaphoreWidths}
+use Rattle.spec_notes.specs.Rows.{eventFrom, eventWidths, messageFrom, messageWidths}
 use Rattle.spec_notes.specs.Touched.{oneTickMore, youngerThread, youngerSemaphore}
 use Rattle.spec_notes.specs.Predicted.{wasBlocked, predictedThread, predictedSemaphore, predictedEvent, predictedMessage}
-use Rattle.spec_notes.specs.Back.{fillPlace, merge, putBackAll, Threading, readThreads, threadsBefore, readSemaphores, semaphoresBefore}
+use Rattle.spec_notes.specs.Back.{fillPlace, merge, putBackAll, Threading}
+use Rattle.spec_notes.specs.Back.{readThreads, threadsBefore, readSemaphores, semaphoresBefore}
 use Rattle.spec_notes.specs.Back.{readEvents, bitChanged, eventsBefore, Filing, readMessages, messagesBefore}
 use Rattle.spec_notes.proofs.EntriesBack.{getD-map}
 use Rattle.spec_notes.proofs.Limits.{SmallSemaphore, SmallEvent, set-all}
@@ -73,7 +75,8 @@ module _ (c : Call) where
     unfolding threadsBefore
     threads-any s h =
         threads-fine (length s) s _ h
-        (λ t. cases (ltb t (length new)) (λ e. rw (getD-map (youngerThread c) new t noThread (ltb-true t (length new) e)) (thread-younger _ (F t)))
+        (λ t. cases (ltb t (length new))
+        (λ e. rw (getD-map (youngerThread c) new t noThread (ltb-true t (length new) e)) (thread-younger _ (F t)))
         (λ e. let b : length (map (youngerThread c) new) ≤ t = rw length-map (ltb-false t (length new) e) in
         rw (List·getD-eq-default (map (youngerThread c) new) noThread b) (omega arith)))
 
@@ -117,7 +120,8 @@ module _ (c : Call) where
     unfolding semaphoresBefore
     semaphores-any s h =
         semaphores-fine (length s) s _ h
-        (λ i. cases (ltb i (length new)) (λ e. rw (getD-map (youngerSemaphore c) new i noSemaphore (ltb-true i (length new) e)) (semaphore-younger _ (F i)))
+        (λ i. cases (ltb i (length new))
+        (λ e. rw (getD-map (youngerSemaphore c) new i noSemaphore (ltb-true i (length new) e)) (semaphore-younger _ (F i)))
         (λ e. let b : length (map (youngerSemaphore c) new) ≤ i = rw length-map (ltb-false i (length new) e) in
         rw (List·getD-eq-default (map (youngerSemaphore c) new) noSemaphore b) (omega arith)))
 

@@ -94,7 +94,8 @@ module _ {A : Type 0} (touched : ℕ → Bool) (place : ℕ → ℕ) (what : ℕ
     each-stays i (suc n) l h g =
         cases (touched i)
         (λ e. rw e (each-stays (suc i) n (put i l) (rw length-set h) (cases (eqb (place i) j)
-        (λ p. put-at i l h e (eqb-true (place i) j p)) (λ p. getD-set-other l (place i) j (what i) d (λ q. eqb-false (place i) j p (sym q)) ∙ g))))
+        (λ p. put-at i l h e (eqb-true (place i) j p))
+        (λ p. getD-set-other l (place i) j (what i) d (λ q. eqb-false (place i) j p (sym q)) ∙ g))))
         (λ e. rw e (each-stays (suc i) n l h g))
 
     -- u of the ids puts it there

@@ -35,7 +35,8 @@ module _ (touched differs : ℕ → Bool) (entry : ℕ → List ℕ) (w : ℕ) w
       (cases (touched i) (λ e. rw (e, length-append) (omega (arith, h i e))) (λ e. rw e (omega arith)))
 
   -- each takes w bytes, and who doesn't differ is x
-  module _ (h : (i : ℕ) → touched i ≡ true → length (entry i) ≤ w) (x : ℕ) (only : (i : ℕ) → touched i ≡ true → differs i ≡ false → i ≡ x) where
+  module _ (h : (i : ℕ) → touched i ≡ true → length (entry i) ≤ w) (x : ℕ)
+      (only : (i : ℕ) → touched i ≡ true → differs i ≡ false → i ≡ x) where
     entries-either : (i n : ℕ) → (x < i → length (entriesFrom touched entry i n) ≤ w * countFrom differs i n)
         × (length (entriesFrom touched entry i n) ≤ w * countFrom differs i n + w)
     entries-either i zero = (λ _. omega arith, omega arith)
@@ -117,9 +118,11 @@ module _ (k : Kernel) (c : Call) (k′ : Kernel) where
   unfolding schedulerSection sum
   scheduler-short = short _ _
     where
-      short : (old predicted : List ℕ) → length (cond (eqb (flagsOf old predicted) 0) [] (flagsOf old predicted ∷ bodyOf schedulerWidths old predicted)) ≤ 4
+      short : (old predicted : List ℕ)
+          → length (cond (eqb (flagsOf old predicted) 0) [] (flagsOf old predicted ∷ bodyOf schedulerWidths old predicted)) ≤ 4
       short old predicted =
-          cases (eqb (flagsOf old predicted) 0) (λ e. rw e (omega arith)) (λ e. rw e (omega (arith, body-short schedulerWidths old predicted)))
+          cases (eqb (flagsOf old predicted) 0) (λ e. rw e (omega arith))
+          (λ e. rw e (omega (arith, body-short schedulerWidths old predicted)))
 
   pub threads-below : length (threadsSection k c k′) < 10000
   unfolding threadsSection

@@ -80,6 +80,7 @@ module _ (k : Kernel) (c : Call) (k′ : Kernel) where
       unfolding eventsBefore readEvents eventEntry
       events-back =
           ap (λ (s : List ℕ). readEvents (length (eventsSection k c k′)) (k′ .events) s (k′ .events)) (opens .1)
-          ∙ read-part (λ n. readEvents n (k′ .events)) touched (eventEntry k c k′) step (λ _. refl) (λ _. refl) (λ _ _. refl) next (λ a. a) step
+          ∙ read-part (λ n. readEvents n (k′ .events)) touched (eventEntry k c k′) step (λ _. refl) (λ _. refl) (λ _ _. refl) next
+          (λ a. a) step
           (λ _ _. refl) _ 8 _ (opens .2)
           ∙ records-back touched noEvent 8 (k .events) (k′ .events) (Z .events) (Z′ .events) (λ i _ e. untouched i e)

@@ -105,7 +105,9 @@ module _ (k : Kernel) (c : Call) (k′ : Kernel) where
   module _ (L : Slight k c k′) where
     events-one : (n : ℕ) → length (entriesFrom (touchedEvent k c k′) (eventEntry k c k′) 0 n) ≤ 11
     events-one n =
-        let s = entries-but-one (touchedEvent k c k′) (λ _. false) (eventEntry k c k′) 11 (λ i _. event-entry k c k′ i) (c .a) (λ i t _. L .events i t) 0 n in
+        let s =
+        entries-but-one (touchedEvent k c k′) (λ _. false) (eventEntry k c k′) 11 (λ i _. event-entry k c k′ i) (c .a)
+        (λ i t _. L .events i t) 0 n in
         let z = count-none 0 n in
         omega arith
 
@@ -114,7 +116,8 @@ module _ (k : Kernel) (c : Call) (k′ : Kernel) where
     events-short =
         let more : (h m : ℕ) → h ≤ 1 → m ≤ 11 → h + m ≤ 12 = λ h m a b. omega arith in
         rw length-append
-        (cases (eqb (k .bits) (k′ .bits)) (λ e. rw e (more 0 _ (omega arith) (events-one 8))) (λ e. rw e (more 1 _ (omega arith) (events-one 8))))
+        (cases (eqb (k .bits) (k′ .bits)) (λ e. rw e (more 0 _ (omega arith) (events-one 8)))
+        (λ e. rw e (more 1 _ (omega arith) (events-one 8))))
 
     messages-short : length (messagesSection k c k′) ≤ 16 * messagesDiffer k k′ + 16
     unfolding messagesSection messagesDiffer
@@ -193,7 +196,8 @@ module _ (k : Kernel) (bytes : List ℕ) (k′ : Kernel) where
   pub note-length : length bytes ≡ 16
       → length (noteOf k bytes k′)
       ≡ 28 + length (schedulerSection k (callOf bytes) k′) + length (threadsSection k (callOf bytes) k′)
-      + length (semaphoresSection k (callOf bytes) k′) + length (eventsSection k (callOf bytes) k′) + length (messagesSection k (callOf bytes) k′)
+      + length (semaphoresSection k (callOf bytes) k′) + length (eventsSection k (callOf bytes) k′) + length
+      (messagesSection k (callOf bytes) k′)
   unfolding noteOf beforeLength
   note-length e = simp (length-append, length-le) (omega arith)
 

@@ -69,7 +69,8 @@ module _ (k : Kernel) (c : Call) (k′ : Kernel) where
         → f read ≡ each touched put 0 64 (f (record { messages = k′ .messages; out = replicate 64 0; at = replicate 64 255 }))
     unfolding messagesBefore messagesSection readMessages messageEntry
     part f put h =
-        read-part (λ n. readMessages n c (k′ .runner) (k′ .messages)) touched (messageEntry k c k′) step (λ _. refl) (λ _. refl) (λ _ _. refl) next f put h
+        read-part (λ n. readMessages n c (k′ .runner) (k′ .messages)) touched (messageEntry k c k′) step (λ _. refl) (λ _. refl)
+        (λ _ _. refl) next f put h
         _ 64 _ (le-refl _)
 
     module _ (Z′ : Sized k′) where
@@ -85,6 +86,7 @@ module _ (k : Kernel) (c : Call) (k′ : Kernel) where
       pub posted-back : Rules k → Rules k′ → LeftAlone k c k′ → putBackAll (read .out) (read .at) (k′ .posted) ≡ k .posted
       posted-back R R′ F =
           let S = filed k Z R in
-          table-back isQueued noMessage refl 64 (omega arith) touched (k .messages) (k′ .messages) (k .posted) (k′ .posted) (Z .messages) (Z′ .messages)
+          table-back isQueued noMessage refl 64 (omega arith) touched (k .messages) (k′ .messages) (k .posted) (k′ .posted) (Z .messages)
+          (Z′ .messages)
           (S .tidy) (S .placed) (filed k′ Z′ R′ .placed) (F .posted) (part (λ a. a .out) (λ m l. set l m 1) (λ _ _. refl))
           (part (λ a. a .at) (λ m l. set l _ m) (λ _ _. refl))

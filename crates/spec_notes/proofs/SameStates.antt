@@ -36,7 +36,8 @@ module _ {A : Type 0} (test : A → A → Bool) where
         rw (means x y (f 0) (g 0) e, same-all l m (λ i. f (suc i)) (λ i. g (suc i)) r)
 
 -- of any members
-same-list : {A : Type 0} (test : A → A → Bool) (d : A) → ((x y : A) → test x y ≡ true → x ≡ y) → (l m : List A) → sameAll test l m ≡ true → l ≡ m
+same-list : {A : Type 0} (test : A → A → Bool) (d : A) → ((x y : A) → test x y ≡ true → x ≡ y) → (l m : List A) → sameAll test l m ≡ true
+    → l ≡ m
 same-list test d f l m h = same-all test d (λ _. Unit {0}) (λ x y _ _. f x y) l m (λ _. tt) (λ _. tt) h
 
 same-queue : (q p : Queue) → sameQueue q p ≡ true → q ≡ p

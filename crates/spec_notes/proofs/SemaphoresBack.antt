@@ -48,7 +48,8 @@ module _ (k : Kernel) (c : Call) (k′ : Kernel) (W : Within k) where
     pub semaphores-back : semaphoresBefore c (k′ .semaphores) (semaphoresSection k c k′) ≡ k .semaphores
     unfolding semaphoresBefore semaphoresSection readSemaphores semaphoreEntry
     semaphores-back =
-        read-part (λ n. readSemaphores n c (k′ .semaphores)) touched (semaphoreEntry k c k′) step (λ _. refl) (λ _. refl) (λ _ _. refl) next (λ a. a) step
+        read-part (λ n. readSemaphores n c (k′ .semaphores)) touched (semaphoreEntry k c k′) step (λ _. refl) (λ _. refl)
+        (λ _ _. refl) next (λ a. a) step
         (λ _ _. refl) _ 16 _ (le-refl _)
         ∙ records-back touched noSemaphore 16 (k .semaphores) (map (youngerSemaphore c) (k′ .semaphores)) (Z .semaphores)
         (length-map (k′ .semaphores) _ ∙ Z′ .semaphores)

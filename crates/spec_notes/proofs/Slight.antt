@@ -25,7 +25,8 @@ use Rattle.spec_kernel.specs.Channels.{isFor, firstFor, nextMessage}
 use Rattle.spec_calls.specs.declared.call.Call.{Call}
 use Rattle.spec_refusals.specs.Refusals.{is, badId, noneFree}
 use Rattle.spec_moves.specs.States.{moveMessage, asByte}
-use Rattle.spec_threads.specs.Threads.{block, wake, owns, freeMessages, createThread, destroyThread, setPriority, resetPriority, yielded, sleep}
+use Rattle.spec_threads.specs.Threads.{block, wake, owns, freeMessages, createThread}
+use Rattle.spec_threads.specs.Threads.{destroyThread, setPriority, resetPriority, yielded, sleep}
 use Rattle.spec_regions.specs.Regions.{pushUnscheduled, popUnscheduled, popAllUnscheduled, pushCritical, popCritical, popAllCritical}
 use Rattle.spec_semaphores.specs.Semaphores.{postTo, post, createSemaphore, destroySemaphore, makePeriodic, removePeriodic}
 use Rattle.spec_semaphores.specs.Semaphores.{pendSemaphore, postSemaphore}
@@ -193,7 +194,8 @@ module _ {k : Kernel} (B : Before k) {c : Call} (A : Accepted k c) where
       let (queued, _) = and-eq-true-iff (ltb 0 (message k m .channel)) _ .0 masked in
       let l : message k m .live ≡ true =
       cases (message k m .live) (λ l. l)
-      (λ l. let z = ap (λ (r : Message). r .channel) (B .core .messages m .gone l) in absurd (omega (arith, ltb-true 0 (message k m .channel) queued))) in
+      (λ l. let z = ap (λ (r : Message). r .channel) (B .core .messages m .gone l) in absurd
+      (omega (arith, ltb-true 0 (message k m .channel) queued))) in
       rw h (one-message k c _ m _ refl refl (rw (l, e))))
 
   pub effect-slight : Slight k c (effect k c)

@@ -91,7 +91,8 @@ module _ (k : Kernel) (c : Call) (k′ : Kernel) where
     next : (n t : ℕ) (rest : List ℕ) (a : Threading)
         → readThreads (suc n) c (k′ .threads) (threadEntry k c k′ t ++ rest) a ≡ readThreads n c (k′ .threads) rest (step t a)
     unfolding readThreads threadEntry DeadThreads
-    next n t rest a = rw (rest-back (_ ∷ _ ∷ []) rest (fits t), row-back rest (fits t), thread-back (thread k t) _ _ (R .deadThreads t) (byte-id t))
+    next n t rest a =
+        rw (rest-back (_ ∷ _ ∷ []) rest (fits t), row-back rest (fits t), thread-back (thread k t) _ _ (R .deadThreads t) (byte-id t))
 
     -- what the section gives, and a part of it
     abbrev read : Threading
@@ -103,7 +104,8 @@ module _ (k : Kernel) (c : Call) (k′ : Kernel) where
         (f (record { threads = map (youngerThread c) (k′ .threads); out = replicate 64 0; at = replicate 64 255; due = replicate 64 255 }))
     unfolding threadsBefore threadsSection readThreads threadEntry
     part f put h =
-        read-part (λ n. readThreads n c (k′ .threads)) touched (threadEntry k c k′) step (λ _. refl) (λ _. refl) (λ _ _. refl) next f put h _ 32 _ (le-refl _)
+        read-part (λ n. readThreads n c (k′ .threads)) touched (threadEntry k c k′) step (λ _. refl) (λ _. refl)
+        (λ _ _. refl) next f put h _ 32 _ (le-refl _)
 
     out : read .out ≡ each touched (λ t l. set l t 1) 0 32 (replicate 64 0)
     out = part (λ a. a .out) (λ t l. set l t 1) (λ _ _. refl)
@@ -118,7 +120,8 @@ module _ (k : Kernel) (c : Call) (k′ : Kernel) where
       pub threads-back : read .threads ≡ k .threads
       threads-back =
           part (λ a. a .threads) (λ t l. set l t (thread k t)) (λ _ _. refl)
-          ∙ records-back touched noThread 32 (k .threads) (map (youngerThread c) (k′ .threads)) (Z .threads) (length-map (k′ .threads) _ ∙ Z′ .threads)
+          ∙ records-back touched noThread 32 (k .threads) (map (youngerThread c) (k′ .threads)) (Z .threads)
+          (length-map (k′ .threads) _ ∙ Z′ .threads)
           (λ t b e. getD-map (youngerThread c) (k′ .threads) t noThread (rw (Z′ .threads) b) ∙ untouched t e)
 
       module _ (F : LeftAlone k c k′) where
@@ -126,11 +129,13 @@ module _ (k : Kernel) (c : Call) (k′ : Kernel) where
         unfolding homeOf
         places-back =
             let S = standing k Z R in
-            table-back hasHome noThread refl 32 (omega arith) touched (k .threads) (k′ .threads) (k .places) (k′ .places) (Z .threads) (Z′ .threads)
+            table-back hasHome noThread refl 32 (omega arith) touched (k .threads) (k′ .threads) (k .places) (k′ .places) (Z .threads)
+            (Z′ .threads)
             (S .tidyPlaces) (S .placed) (standing k′ Z′ R′ .placed) (F .places) out (part (λ a. a .at) (λ t l. set l _ t) (λ _ _. refl))
 
         pub time-back : putBackAll (read .out) (read .due) (k′ .time) ≡ k .time
         time-back =
             let S = standing k Z R in
-            table-back (λ r. ltb 0 (r .ticks)) noThread refl 32 (omega arith) touched (k .threads) (k′ .threads) (k .time) (k′ .time) (Z .threads) (Z′ .threads)
+            table-back (λ r. ltb 0 (r .ticks)) noThread refl 32 (omega arith) touched (k .threads) (k′ .threads) (k .time) (k′ .time)
+            (Z .threads) (Z′ .threads)
             (S .tidyTime) (S .timed) (standing k′ Z′ R′ .timed) (F .time) out (part (λ a. a .due) (λ t l. set l _ t) (λ _ _. refl))

@@ -95,7 +95,8 @@ pulse-own i u p b h =
     cases (ltb i (length (u .semaphores)))
     (λ g. let l = ltb-true i (length (u .semaphores)) g in
     let z = rw (e, f, getD-set-same (u .semaphores) i _ noSemaphore l) at h in absurd (omega arith))
-    (λ g. absurd (p (ap (λ (s : Semaphore). s .period) (List·getD-eq-default (u .semaphores) noSemaphore (ltb-false i (length (u .semaphores)) g))))))
+    (λ g. absurd (p (ap (λ (s : Semaphore). s .period) (List·getD-eq-default (u .semaphores) noSemaphore (ltb-false i (length
+    (u .semaphores)) g))))))
 
 pulses-own : (i j n : ℕ) (u : Kernel) → j ≤ i → i < j + n → Aged (semaphore u i) (semaphore (pulseFrom j n u) i)
 unfolding pulseFrom

@@ -27,7 +27,8 @@ use Rattle.spec_notes.specs.Notes.{noteOf}
 use Rattle.spec_notes.specs.Back as Back
 use Rattle.spec_notes.specs.Back.{bitChanged, bitsBefore, earlier, Sections, stateBefore}
 use Rattle.spec_notes.specs.Within.{Within}
-use Rattle.spec_notes.specs.Frames.{nothing, sections, firstSection, behindSection, areWhole, sectionsAt, framesFrom, framesOf, sectionsIn}
+use Rattle.spec_notes.specs.Frames.{nothing, sections, firstSection, behindSection}
+use Rattle.spec_notes.specs.Frames.{areWhole, sectionsAt, framesFrom, framesOf, sectionsIn}
 use Rattle.spec_notes.specs.Undo.{lastLength, hasLast, lastNote, Yields}
 use Rattle.spec_notes.specs.Undoes.{callBytes, backFrom, isDecoded, levelsFit, yieldsAgain, undoesNote, undoes}
 use Rattle.spec_notes.proofs.Limits.{Limits, limits-within}
@@ -83,7 +84,8 @@ module _ (c : Call) (k′ : Kernel) (x : Sections) (Z : Sized k′) (W : Within 
         semaphores = semaphores-sized c (k′ .semaphores) (λ i. (W .maximum i, W .left i, W .period i)) (x .semaphores) ∙ Z .semaphores;
         events = events-sized (k′ .events) (λ i. (W .mask i, W .values i)) (x .events) ∙ Z .events;
         messages =
-            messages-sized c (k′ .runner) (k′ .messages) (λ m. (W .kind m, W .size m, W .address m, W .channel m)) (x .messages) ∙ Z .messages;
+            messages-sized c (k′ .runner) (k′ .messages) (λ m. (W .kind m, W .size m, W .address m, W .channel m)) (x .messages)
+            ∙ Z .messages;
         places = back-full _ _ (k′ .places);
         time = back-full _ _ (k′ .time);
         posted = back-full _ _ (k′ .posted);
@@ -96,7 +98,8 @@ module _ (c : Call) (k′ : Kernel) (x : Sections) (Z : Sized k′) (W : Within 
   unfolding bitsBefore
   bits-small =
       cases (bitChanged (x .events))
-      (λ e. rw e (cases (bitAt (k′ .bits) (c .a)) (λ b. rw b (without-small (k′ .bits) (c .a) (W .bits))) (λ b. rw b (with-small (k′ .bits) (c .a) (W .bits)))))
+      (λ e. rw e (cases (bitAt (k′ .bits) (c .a)) (λ b. rw b (without-small (k′ .bits) (c .a) (W .bits))) (λ b. rw b (with-small (k′ .bits)
+      (c .a) (W .bits)))))
       (λ e. rw e (W .bits))
 
   earlier-small : earlier c (k′ .uptime) < 4294967296
@@ -115,7 +118,8 @@ module _ (c : Call) (k′ : Kernel) (x : Sections) (Z : Sized k′) (W : Within 
         semaphores = semaphores-any c (k′ .semaphores) (λ i. (W .maximum i, W .left i, W .period i)) (x .semaphores) s;
         events = events-any (k′ .events) (λ i. (W .mask i, W .values i)) (x .events) e;
         messages = λ i.
-            let (a, b, d, _) = messages-any c (k′ .runner) (k′ .messages) (λ m. (W .kind m, W .size m, W .address m, W .channel m)) (x .messages) m i in
+            let (a, b, d, _) =
+            messages-any c (k′ .runner) (k′ .messages) (λ m. (W .kind m, W .size m, W .address m, W .channel m)) (x .messages) m i in
             (a, b, d);
         bits = bits-small;
         scheduler = (earlier-small, ltb-true _ 256 u, ltb-true _ 256 v);
@@ -234,7 +238,10 @@ module _ (log : List ℕ) (used : ℕ) where
   unfolding undoes
   undo-exactly k′ Z R W B = (
     λ h. let (a, b) = and-eq-true-iff (hasLast log used) (undoesNote k′ (lastNote log used)) .0 h in
-        let s = last-sizes a in
-        (backFrom k′ (lastNote log used), callBytes (lastNote log used), undone-yields k′ (lastNote log used) Z R W (last-bytes B) (omega arith) b),
+        let s = last-sizes a in (
+          backFrom k′ (lastNote log used),
+          callBytes (lastNote log used),
+          undone-yields k′ (lastNote log used) Z R W (last-bytes B) (omega arith) b,
+        ),
     λ y. yields-undoes (y .2),
   )

@@ -60,7 +60,8 @@ sectionsOf k c k′ =
       messages = messagesSection k c k′;
     }
 
-module _ (k : Kernel) (c : Call) (k′ : Kernel) (Z : Sized k) (Z′ : Sized k′) (R : Rules k) (R′ : Rules k′) (W : Within k) (F : LeftAlone k c k′) where
+module _ (k : Kernel) (c : Call) (k′ : Kernel) (Z : Sized k) (Z′ : Sized k′) (R : Rules k) (R′ : Rules k′) (W : Within k)
+    (F : LeftAlone k c k′) where
   -- everything but who ran
   rest-back : before c k′ (sectionsOf k c k′) ≡ withRunner (heldRunner k k′) k
   unfolding before

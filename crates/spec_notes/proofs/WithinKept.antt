@@ -19,8 +19,10 @@ use Rattle.spec_kernel.specs.Channels.{nextMessage}
 use Rattle.spec_calls.specs.declared.call.Call.{Call}
 use Rattle.spec_refusals.specs.Refusals.{numberOf}
 use Rattle.spec_moves.specs.States.{withBits, withLevels, asByte, scheduled}
-use Rattle.spec_threads.specs.Threads.{block, wake, owns, freeMessages, createThread, destroyThread, setPriority, resetPriority, yielded, sleep}
-use Rattle.spec_regions.specs.Regions.{oneMore, pushUnscheduled, popUnscheduled, popAllUnscheduled, pushCritical, popCritical, popAllCritical}
+use Rattle.spec_threads.specs.Threads.{block, wake, owns, freeMessages, createThread}
+use Rattle.spec_threads.specs.Threads.{destroyThread, setPriority, resetPriority, yielded, sleep}
+use Rattle.spec_regions.specs.Regions.{oneMore, pushUnscheduled, popUnscheduled}
+use Rattle.spec_regions.specs.Regions.{popAllUnscheduled, pushCritical, popCritical, popAllCritical}
 use Rattle.spec_semaphores.specs.Semaphores.{postTo, post, createSemaphore, destroySemaphore, makePeriodic, removePeriodic}
 use Rattle.spec_semaphores.specs.Semaphores.{pendSemaphore, postSemaphore}
 use Rattle.spec_events.specs.Events.{workedOut, loadEvent, pendEvent, setBit, clearBit}

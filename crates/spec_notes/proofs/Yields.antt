@@ -39,7 +39,8 @@ module _ {k : Kernel} {bytes : List ℕ} {k′ : Kernel} {note : List ℕ} (Y : 
       let (Z′, R′) = rules-kept k c (Y .sized) (Y .rules) (Y .accepted) in
       let W′ = within-kept k c (Y .sized) (Y .rules) (Y .inside) X (Y .accepted) in
       let F = call-leaves k c (Y .sized) (Y .rules) (Y .inside) X (Y .accepted) in
-      let all : Sized (scheduled (effect k c)) × Rules (scheduled (effect k c)) × Within (scheduled (effect k c)) × LeftAlone k c (scheduled (effect k c)) =
+      let all : Sized (scheduled (effect k c)) × Rules (scheduled (effect k c)) × Within (scheduled (effect k c))
+      × LeftAlone k c (scheduled (effect k c)) =
       (Z′, R′, W′, F) in
       rw (Y .state) at all
 

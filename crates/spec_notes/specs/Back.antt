@@ -19,7 +19,8 @@ use Rattle.spec_kernel.specs.Runner.{chosen}
 use Rattle.spec_moves.specs.States.{withRunner}
 use Rattle.spec_calls.specs.declared.call.Call.{Call}
 use Rattle.spec_refusals.specs.Refusals.{is, isOneOf}
-use Rattle.spec_notes.specs.Rows.{threadFrom, threadWidths, semaphoreFrom, semaphoreWidths, eventFrom, eventWidths, messageFrom, messageWidths, schedulerWidths}
+use Rattle.spec_notes.specs.Rows.{threadFrom, threadWidths, semaphoreFrom, semaphoreWidths}
+use Rattle.spec_notes.specs.Rows.{eventFrom, eventWidths, messageFrom, messageWidths, schedulerWidths}
 use Rattle.spec_notes.specs.Touched.{youngerThread, youngerSemaphore}
 use Rattle.spec_notes.specs.Predicted.{predictedThread, predictedSemaphore, predictedEvent, predictedMessage, predictedScheduler}
 

@@ -24,6 +24,7 @@ pub record LeftAlone (k : Kernel) (c : Call) (k′ : Kernel) : Type 0 where
   pub messageCount : length (k .messages) ≡ length (k′ .messages)
   pub places : keep (λ t. not (touchedThread k c k′ t)) (items (k′ .places)) ≡ keep (λ t. not (touchedThread k c k′ t)) (items (k .places))
   pub time : keep (λ t. not (touchedThread k c k′ t)) (items (k′ .time)) ≡ keep (λ t. not (touchedThread k c k′ t)) (items (k .time))
-  pub posted : keep (λ m. not (touchedMessage k c k′ m)) (items (k′ .posted)) ≡ keep (λ m. not (touchedMessage k c k′ m)) (items (k .posted))
+  pub posted : keep (λ m. not (touchedMessage k c k′ m)) (items (k′ .posted)) ≡ keep (λ m. not (touchedMessage k c k′ m))
+      (items (k .posted))
   pub bits : (k .bits ≡ k′ .bits) ⊎ (k .bits ≡ otherWay (k′ .bits) (c .a))
   pub uptime : k .uptime ≡ earlier c (k′ .uptime)

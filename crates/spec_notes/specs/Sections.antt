@@ -14,7 +14,8 @@ use Rattle.spec_kernel.specs.declared.records.Kernel.{Kernel}
 use Rattle.spec_kernel.specs.Records.{thread, semaphore, event, message}
 use Rattle.spec_calls.specs.declared.call.Call.{Call}
 use Rattle.spec_refusals.specs.Refusals.{is, isOneOf}
-use Rattle.spec_notes.specs.Rows.{threadCode, threadRow, threadWidths, semaphoreRow, semaphoreWidths, eventRow, eventWidths, messageRow, messageWidths, schedulerRow, schedulerWidths}
+use Rattle.spec_notes.specs.Rows.{threadCode, threadRow, threadWidths, semaphoreRow, semaphoreWidths}
+use Rattle.spec_notes.specs.Rows.{eventRow, eventWidths, messageRow, messageWidths, schedulerRow, schedulerWidths}
 use Rattle.spec_notes.specs.Touched.{touchedThread, touchedSemaphore, touchedEvent, touchedMessage}
 use Rattle.spec_notes.specs.Predicted.{predictedThread, predictedSemaphore, predictedEvent, predictedMessage, predictedScheduler}
 

@@ -47,7 +47,8 @@ module _ (t : ℕ × Bool) (l : List (ℕ × Bool)) (d : distinct (t ∷ l) ≡ 
   rest-distinct = and-right (lacks (t .0) l) (distinct l) (and-right (not (eqb (t .0) 0)) (lacks (t .0) l && distinct l) d)
 
 -- none before i applies: one more entry in front that doesn't
-one-more : (n : ℕ) (l : List (ℕ × Bool)) (i : ℕ) → ((j : ℕ) → j < i → condition l j ≡ false) → (j : ℕ) → j < suc i → condition ((n, false) ∷ l) j ≡ false
+one-more : (n : ℕ) (l : List (ℕ × Bool)) (i : ℕ) → ((j : ℕ) → j < i → condition l j ≡ false) → (j : ℕ) → j < suc i
+    → condition ((n, false) ∷ l) j ≡ false
 one-more n l i f zero h = refl
 one-more n l i f (suc j) h = f j (omega arith)
 
@@ -63,7 +64,8 @@ given-means ((n, false) ∷ l) d (suc i) h e =
     (r .0, one-more n l i (r .1))
 
 -- and the other way
-first-given : (l : List (ℕ × Bool)) (i : ℕ) → condition l i ≡ true → ((j : ℕ) → j < i → condition l j ≡ false) → firstThatApplies l ≡ number l i
+first-given : (l : List (ℕ × Bool)) (i : ℕ) → condition l i ≡ true → ((j : ℕ) → j < i → condition l j ≡ false)
+    → firstThatApplies l ≡ number l i
 first-given [] i e f = refl
 first-given ((n, true) ∷ l) zero e f = refl
 first-given ((n, false) ∷ l) zero e f = absurd (false≢true e)

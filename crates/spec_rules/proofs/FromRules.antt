@@ -21,8 +21,10 @@ use Rattle.spec_kernel.specs.Truth.{isTrue}
 use Rattle.spec_kernel.specs.Runner.{chosen, firstReady}
 use Rattle.spec_moves.specs.Standing.{threadsOf, postsOf, Standing, Filed}
 use Rattle.spec_rules.specs.Rules.{Sized, Rules}
-use Rattle.spec_rules.specs.Rules.{SemaphorePlaces, EventPlaces, LiveSemaphores, LiveEvents, UnusedStore, TimePlaces, WaitingOrder, TimeOrder, StoreOrder}
-use Rattle.spec_rules.specs.Rules.{WaitersAtZero, CountsAtMost, TrueWithoutWaiters, NoneAwaited, LiveOwners, ChannelPlaces, NoOtherPosts}
+use Rattle.spec_rules.specs.Rules.{SemaphorePlaces, EventPlaces, LiveSemaphores, LiveEvents}
+use Rattle.spec_rules.specs.Rules.{UnusedStore, TimePlaces, WaitingOrder, TimeOrder, StoreOrder}
+use Rattle.spec_rules.specs.Rules.{WaitersAtZero, CountsAtMost, TrueWithoutWaiters}
+use Rattle.spec_rules.specs.Rules.{NoneAwaited, LiveOwners, ChannelPlaces, NoOtherPosts}
 use Rattle.spec_rules.specs.Rules.{PrioritySizes, MaskSizes, ReplySizes, MaximumSizes, MessageSizes, FirstRuns, SomeRuns}
 use Rattle.spec_rules.specs.Rules.{TicksLeft, PeriodicTicks, OtherTicks, UnperiodicTicks, DeadThreads, DeadSemaphores, DeadMessages}
 use Rattle.spec_rules.proofs.OfRecords.{ConditionKept, KeptThread, KeptSemaphore, KeptMessage}
@@ -58,7 +60,8 @@ module _ (k : Kernel) (Z : Sized k) (R : Rules k) where
   kept-thread : (t : ℕ) → KeptThread k (thread k t)
   unfolding PrioritySizes ReplySizes DeadThreads
   kept-thread t = record {
-    living = λ e. record { priority = R .prioritySizes t e; reply = R .replySizes t; condition = condition-of t e (thread k t .condition) refl };
+    living =
+        λ e. record { priority = R .prioritySizes t e; reply = R .replySizes t; condition = condition-of t e (thread k t .condition) refl };
     gone = R .deadThreads t;
   }
 
@@ -91,7 +94,8 @@ module _ (k : Kernel) (Z : Sized k) (R : Rules k) where
   kept-message : (m : ℕ) → KeptMessage k (message k m)
   unfolding LiveOwners MessageSizes DeadMessages
   kept-message m = record {
-    living = λ e. record { owner = R .liveOwners m e; sender = R .messageSizes m .0; channel = R .messageSizes m .1; unawaited = unawaited m e };
+    living =
+        λ e. record { owner = R .liveOwners m e; sender = R .messageSizes m .0; channel = R .messageSizes m .1; unawaited = unawaited m e };
     gone = R .deadMessages m;
   }
 
@@ -108,7 +112,8 @@ module _ (k : Kernel) (Z : Sized k) (R : Rules k) where
     placed = stands k home (R .readyPlaces) (R .semaphorePlaces) (R .eventPlaces) (R .noOtherPlaces);
     timed = λ t. R .timePlaces t ∙ ap one (timed k Z kept-thread t);
     inRank =
-        pairs-ordered (λ t. homeOf (thread k t)) (λ t. thread k t .priority) (Z .priorities) (items (k .places)) (R .storeOrder .0) (R .waitingOrder);
+        pairs-ordered (λ t. homeOf (thread k t)) (λ t. thread k t .priority) (Z .priorities) (items (k .places)) (R .storeOrder .0)
+        (R .waitingOrder);
     inTime = R .timeOrder;
   }
 

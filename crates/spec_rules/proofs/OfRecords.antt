@@ -175,7 +175,8 @@ KeptSemaphore r = Kept (λ (s : Semaphore). s .live) noSemaphore LiveSemaphore r
 pub semaphores-exactly : (k : Kernel) → (semaphoresKept k ≡ true) ↔ ((i : ℕ) → KeptSemaphore (semaphore k i))
 unfolding semaphoresKept semaphoreKept
 semaphores-exactly k =
-    kept-exactly (λ r. r .live) liveSemaphoreKept isNoSemaphore noSemaphore LiveSemaphore refl semaphore-lives semaphore-gone (k .semaphores)
+    kept-exactly (λ r. r .live) liveSemaphoreKept isNoSemaphore noSemaphore LiveSemaphore refl semaphore-lives semaphore-gone
+    (k .semaphores)
 
 -- ---- messages
 pub record LiveMessage (k : Kernel) (r : Message) : Type 0 where
@@ -205,4 +206,5 @@ KeptMessage k r = Kept (λ (s : Message). s .live) noMessage (LiveMessage k) r
 pub messages-exactly : (k : Kernel) → (messagesKept k ≡ true) ↔ ((m : ℕ) → KeptMessage k (message k m))
 unfolding messagesKept messageKept
 messages-exactly k =
-    kept-exactly (λ r. r .live) (liveMessageKept (k .threads)) isNoMessage noMessage (LiveMessage k) refl (message-lives k) message-gone (k .messages)
+    kept-exactly (λ r. r .live) (liveMessageKept (k .threads)) isNoMessage noMessage (LiveMessage k) refl (message-lives k) message-gone
+    (k .messages)

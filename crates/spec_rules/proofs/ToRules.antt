@@ -19,8 +19,10 @@ use Rattle.spec_kernel.specs.Records.{thread, semaphore, message}
 use Rattle.spec_kernel.specs.Conditions.{onSemaphore, waitsForSemaphore, onEvent, waitsForEvent}
 use Rattle.spec_kernel.specs.Places.{homeOf, rankOf, atHome, semaphoreQueue, eventQueue, isQueued, onChannel, channel}
 use Rattle.spec_rules.specs.Rules.{Sized, Rules}
-use Rattle.spec_rules.specs.Rules.{LiveSemaphores, LiveEvents, NoOtherPlaces, UnusedStore, TimePlaces, WaitingOrder, TimeOrder, StoreOrder}
-use Rattle.spec_rules.specs.Rules.{WaitersAtZero, CountsAtMost, TrueWithoutWaiters, NoneAwaited, LiveOwners, ChannelPlaces, NoOtherPosts}
+use Rattle.spec_rules.specs.Rules.{LiveSemaphores, LiveEvents, NoOtherPlaces, UnusedStore}
+use Rattle.spec_rules.specs.Rules.{TimePlaces, WaitingOrder, TimeOrder, StoreOrder}
+use Rattle.spec_rules.specs.Rules.{WaitersAtZero, CountsAtMost, TrueWithoutWaiters}
+use Rattle.spec_rules.specs.Rules.{NoneAwaited, LiveOwners, ChannelPlaces, NoOtherPosts}
 use Rattle.spec_rules.specs.Rules.{PrioritySizes, MaskSizes, ReplySizes, MaximumSizes, MessageSizes, FirstRuns, SomeRuns}
 use Rattle.spec_rules.specs.Rules.{TicksLeft, PeriodicTicks, OtherTicks, UnperiodicTicks, DeadThreads, DeadSemaphores, DeadMessages}
 use Rattle.spec_rules.proofs.OfRecords.{live-or-not, ConditionKept}
@@ -89,7 +91,8 @@ module _ (k : Kernel) (Z : Sized k) (W : Whole k) where
 
   -- ---- the rules
   pub rules-of : Rules k
-  unfolding LiveSemaphores LiveEvents NoOtherPlaces UnusedStore TimePlaces WaitingOrder TimeOrder StoreOrder CountsAtMost LiveOwners NoOtherPosts
+  unfolding LiveSemaphores LiveEvents NoOtherPlaces UnusedStore TimePlaces WaitingOrder TimeOrder StoreOrder CountsAtMost LiveOwners
+      NoOtherPosts
       PrioritySizes MaskSizes ReplySizes MaximumSizes MessageSizes FirstRuns SomeRuns
       TicksLeft PeriodicTicks OtherTicks UnperiodicTicks DeadThreads DeadSemaphores DeadMessages rankOf
   rules-of =
@@ -119,7 +122,8 @@ module _ (k : Kernel) (Z : Sized k) (W : Whole k) where
         maskSizes = λ t mask e. rw e at (condition t);
         replySizes = λ t. live-or-not (λ r. (r .reply < 64) ⊎ (r .reply ≡ 255)) (W .threads t) (λ L. L .reply) (inl (omega arith));
         maximumSizes = λ i e. W .semaphores i .living e .maximum;
-        messageSizes = λ m. live-or-not (λ r. (r .sender < 32) × (r .channel ≤ 15)) (W .messages m) (λ L. (L .sender, L .channel)) (omega arith);
+        messageSizes =
+            λ m. live-or-not (λ r. (r .sender < 32) × (r .channel ≤ 15)) (W .messages m) (λ L. (L .sender, L .channel)) (omega arith);
         ticksLeft = λ t e. ltb-true 0 (thread k t .ticks) (sym (T t) ∙ e);
         periodicTicks = λ i. live-or-not (λ r. 0 < r .period → 0 < r .ticks) (W .semaphores i) (λ L. L .ticks .1) (omega arith);
         deadThreads = λ t. W .threads t .gone;

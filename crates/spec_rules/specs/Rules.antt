@@ -13,7 +13,8 @@ use Rattle.spec_kernel.specs.declared.records.Condition.the-variants.{ForSemaph
 use Rattle.spec_kernel.specs.declared.records.Kernel.{Kernel}
 use Rattle.spec_kernel.specs.Records.{thread, semaphore, event, message, noThread, noSemaphore, noMessage}
 use Rattle.spec_kernel.specs.Conditions.{isReady, waitsForSemaphore, waitsForEvent, isTimed, masks}
-use Rattle.spec_kernel.specs.Places.{homeOf, hasHome, atHome, readyList, semaphoreQueue, eventQueue, timeQueue, channel, onChannel, isQueued, streamOf}
+use Rattle.spec_kernel.specs.Places.{homeOf, hasHome, atHome, readyList, semaphoreQueue}
+use Rattle.spec_kernel.specs.Places.{eventQueue, timeQueue, channel, onChannel, isQueued, streamOf}
 use Rattle.spec_kernel.specs.Truth.{isTrue}
 use Rattle.spec_kernel.specs.Runner.{firstReady}
 

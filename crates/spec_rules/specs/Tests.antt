@@ -33,13 +33,15 @@ noWake (Wake.TimedOut object) = false
 
 -- all fields are 0
 unfoldable pub isNoThread : Thread → Bool
-isNoThread r = allOf (eqb (r .priority) 0 ∷ eqb (r .first) 0 ∷ readyFor (r .condition) ∷ eqb (r .ticks) 0 ∷ noWake (r .wake) ∷ eqb (r .reply) 0 ∷ [])
+isNoThread r =
+    allOf (eqb (r .priority) 0 ∷ eqb (r .first) 0 ∷ readyFor (r .condition) ∷ eqb (r .ticks) 0 ∷ noWake (r .wake) ∷ eqb (r .reply) 0 ∷ [])
 
 unfoldable pub isNoSemaphore : Semaphore → Bool
 isNoSemaphore r = allOf (eqb (r .count) 0 ∷ eqb (r .maximum) 0 ∷ eqb (r .ticks) 0 ∷ eqb (r .period) 0 ∷ [])
 
 unfoldable pub isNoMessage : Message → Bool
-isNoMessage r = allOf (eqb (r .owner) 0 ∷ eqb (r .sender) 0 ∷ eqb (r .kind) 0 ∷ eqb (r .size) 0 ∷ eqb (r .address) 0 ∷ eqb (r .channel) 0 ∷ [])
+isNoMessage r =
+    allOf (eqb (r .owner) 0 ∷ eqb (r .sender) 0 ∷ eqb (r .kind) 0 ∷ eqb (r .size) 0 ∷ eqb (r .address) 0 ∷ eqb (r .channel) 0 ∷ [])
 
 -- Semaphore i may have waiters: it is live and its count is 0 [01, state 1.3, 4.1].
 abbrev pub semaphoreWaited : List Semaphore → ℕ → Bool

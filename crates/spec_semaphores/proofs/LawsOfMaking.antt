@@ -26,7 +26,8 @@ make-semaphore k i r b = record { made = getD-set-same (k .semaphores) i r noSem
 module _ (k : Kernel) (c : Call) where
   -- kind 14 makes the lowest free id, with the count and maximum it says and all else new [01, modelled 5].
   pub create-makes : freeSemaphore k < length (k .semaphores) → c .c < 65536
-      → MadeSemaphore (freeSemaphore k) (record { live = true; count = c .b; maximum = c .c; ticks = 0; period = 0 }) k (createSemaphore k c)
+      → MadeSemaphore (freeSemaphore k) (record { live = true; count = c .b; maximum = c .c; ticks = 0; period = 0 }) k
+      (createSemaphore k c)
   unfolding createSemaphore
   create-makes b h = rw (mod-eq-of-lt h) (make-semaphore k (freeSemaphore k) _ b)
 

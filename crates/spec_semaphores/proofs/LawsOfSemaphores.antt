@@ -73,11 +73,14 @@ module _ (k : Kernel) (i : ℕ) where
     post-only = rw post-raises (semaphore-only k i (raised (semaphore k i)))
 
     module _ (b : i < length (k .semaphores)) where
-      pub post-adds : semaphore k i .count < semaphore k i .maximum → semaphore (post i k) i ≡ counted (semaphore k i .count + 1) (semaphore k i)
-      post-adds h = rw post-raises (semaphore-same k i (raised (semaphore k i)) b ∙ rw (lt-ltb (semaphore k i .count) (semaphore k i .maximum) h))
+      pub post-adds : semaphore k i .count < semaphore k i .maximum
+          → semaphore (post i k) i ≡ counted (semaphore k i .count + 1) (semaphore k i)
+      post-adds h =
+          rw post-raises (semaphore-same k i (raised (semaphore k i)) b ∙ rw (lt-ltb (semaphore k i .count) (semaphore k i .maximum) h))
 
       pub post-full : semaphore k i .maximum ≤ semaphore k i .count → semaphore (post i k) i ≡ semaphore k i
-      post-full h = rw post-raises (semaphore-same k i (raised (semaphore k i)) b ∙ rw (le-ltb (semaphore k i .count) (semaphore k i .maximum) h))
+      post-full h =
+          rw post-raises (semaphore-same k i (raised (semaphore k i)) b ∙ rw (le-ltb (semaphore k i .count) (semaphore k i .maximum) h))
 
 module _ (k : Kernel) (c : Call) where
   -- ---- A pend lowers a count that isn't 0 by one [01, calls: Semaphore 1].

@@ -16,7 +16,8 @@ use Rattle.spec_moves.proofs.Threads.{ready-home, relocate-same, relocate-other
 use Rattle.spec_calls.specs.declared.call.Call.{Call}
 use Rattle.spec_threads.specs.Threads.{block, sleep}
 use Rattle.spec_kernel.specs.WordsOfLaws.{Runnable, stopped, OnlyThreads, OtherThreads}
-use Rattle.spec_threads.proofs.LawsOfHomes.{place-only, live-home, ready-live, live-id, line-without, time-stays, time-joins, line-joins}
+use Rattle.spec_threads.proofs.LawsOfHomes.{place-only, live-home, ready-live, live-id}
+use Rattle.spec_threads.proofs.LawsOfHomes.{line-without, time-stays, time-joins, line-joins}
 
 -- u comes after t in a queue: it has a lower priority, which is a greater number
 abbrev pub isLower : Kernel → ℕ → ℕ → Bool

@@ -93,7 +93,8 @@ module _ (k : Kernel) (a : ℕ) where
       (λ e. rw (e, owned-means (message k m) e .1, ne-eqb a t (λ z. ne (sym z))))
       (λ e. rw e)
 
-pub destroy-destroys : (k : Kernel) (c : Call) → Standing (threadsOf k) → Filed (postsOf k) → c .a < 32 → Destroyed (c .a) k (destroyThread k c)
+pub destroy-destroys : (k : Kernel) (c : Call) → Standing (threadsOf k) → Filed (postsOf k) → c .a < 32
+    → Destroyed (c .a) k (destroyThread k c)
 unfolding destroyThread freeMessages homeOf
 destroy-destroys k c S F id =
     let a = c .a in

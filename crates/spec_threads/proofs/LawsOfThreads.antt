@@ -24,7 +24,8 @@ use Rattle.spec_calls.specs.declared.call.Call.{Call}
 use Rattle.spec_moves.specs.States.{moveThread, scheduled}
 use Rattle.spec_threads.specs.Threads.{createThread, setPriority, resetPriority, yielded}
 use Rattle.spec_kernel.specs.WordsOfLaws.{Runnable, prioritized, newborn, OnlyThreads, OnlyRunner, OtherThreads}
-use Rattle.spec_threads.proofs.LawsOfHomes.{place-only, live-home, ready-live, live-id, line-without, line-nowhere, time-stays, line-joins}
+use Rattle.spec_threads.proofs.LawsOfHomes.{place-only, live-home, ready-live, live-id}
+use Rattle.spec_threads.proofs.LawsOfHomes.{line-without, line-nowhere, time-stays, line-joins}
 
 -- ---- who runs
 -- To choose moves nobody: a preempted thread stands where it stood [01, calls: Blocking 4].
@@ -62,7 +63,8 @@ pub record Created (priority t : ℕ) (k k′ : Kernel) : Type 0 where
 -- an id that isn't 255 is that of the first record that isn't live
 module _ {A : Type 0} (live : A → Bool) (d : A) where
   free-from : (n : ℕ) (l : List A) → (lowestFree live n l ≡ 255 → ⊥)
-      → (i : ℕ) × (lowestFree live n l ≡ n + i) × (i < length l) × (live (getD l i d) ≡ false) × ((j : ℕ) → j < i → live (getD l j d) ≡ true)
+      → (i : ℕ) × (lowestFree live n l ≡ n + i) × (i < length l) × (live (getD l i d) ≡ false) ×
+      ((j : ℕ) → j < i → live (getD l j d) ≡ true)
   free-from n [] h = absurd (h refl)
   free-from n (r ∷ l) h =
       cases (live r)
@@ -75,7 +77,8 @@ module _ (k : Kernel) (c : Call) where
   unfolding createThread
   create-only = place-only (freeThread k) (newborn (c .a)) k
 
-  module _ (S : Standing (threadsOf k)) (byte : c .a < 256) (room : freeThread k ≡ 255 → ⊥) (clean : thread k (freeThread k) .ticks ≡ 0) where
+  module _ (S : Standing (threadsOf k)) (byte : c .a < 256) (room : freeThread k ≡ 255 → ⊥)
+      (clean : thread k (freeThread k) .ticks ≡ 0) where
     pub create-creates : Created (c .a) (freeThread k) k (createThread k c)
     unfolding createThread homeOf
     create-creates =

@@ -70,7 +70,8 @@ module _ {p : Threads} (S : Standing p) (t : ℕ) (W : Stopped (threadIn p t)) w
 
 module _ (k : Kernel) (S : Standing (threadsOf k)) (t : ℕ) (W : Stopped (thread k t)) (why : Wake) where
   -- a thread that gets a woken thread's record wakes, whatever else changes
-  pub move-wakes : (reply : ℕ) (rest : Kernel) → Woken why reply t k (withThreads (relocate t (readied why reply (thread k t)) (threadsOf k)) rest)
+  pub move-wakes : (reply : ℕ) (rest : Kernel)
+      → Woken why reply t k (withThreads (relocate t (readied why reply (thread k t)) (threadsOf k)) rest)
   move-wakes reply rest = record {
     last = woken-last S t W why reply;
     lists = λ p b ne. woken-leaves S t W why reply ne ∙ stopped-list S t W b;
@@ -145,7 +146,8 @@ module _ (why : Thread → Wake) where
         cases (eqb (threadIn p x .priority) q)
         (λ e. rw (e, ← eqb-true (threadIn p x .priority) q e) (woken-last S x first-stopped reason reply′))
         (λ e. rw (e, append-nil)
-        (woken-leaves S x first-stopped reason reply′ (λ z. eqb-false (threadIn p x .priority) q e (sym z)) ∙ stopped-list S x first-stopped b))
+        (woken-leaves S x first-stopped reason reply′ (λ z. eqb-false (threadIn p x .priority) q e (sym z))
+        ∙ stopped-list S x first-stopped b))
 
     module _ {p′ : Threads} (R : AllWoken why l first p′) where
       next-lists : (q : ℕ) → q < 256 → atHomeIn p′ q ≡ atHomeIn p q ++ keep (λ t. eqb (threadIn p t .priority) q) (x ∷ l)

@@ -197,7 +197,8 @@ module _ {A : Type 0} (g : Kernel → A) (threads : (p : Threads) (k : Kernel) �
   pulses-hide i (suc n) k =
       pulses-hide (suc i) n (pulse i k)
       ∙ cases (eqb (semaphore k i .period) 0) (λ e. rw e)
-      (λ e. cases (eqb (semaphore k i .ticks) 1) (λ z. rw (e, z) (semaphores _ (post i k) ∙ post-hides i k)) (λ z. rw (e, z) (semaphores _ k)))
+      (λ e. cases (eqb (semaphore k i .ticks) 1) (λ z. rw (e, z) (semaphores _ (post i k) ∙ post-hides i k))
+      (λ z. rw (e, z) (semaphores _ k)))
 
   tick-hides : (k : Kernel) (c : Call) → g (tick k c) ≡ g (withUptime (later (k .uptime)) k)
   unfolding tick

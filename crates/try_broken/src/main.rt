@@ -11,6 +11,7 @@
 //   b u v r  the event bits, the unscheduled and the critical level, the runner
 ghost use Prim.Native.Nat.{_≤_};
 ghost use lib.ListN.{length};
+use base_queue::Queue;
 use spec_kernel::records::Condition;
 use spec_kernel::records::Event;
 use spec_kernel::records::Kernel;
@@ -18,7 +19,6 @@ use spec_kernel::records::Message;
 use spec_kernel::records::Semaphore;
 use spec_kernel::records::Thread;
 use spec_kernel::records::Wake;
-use base_queue::Queue;
 
 // What a line changes: a kind of record with its id, or a table.
 struct Choice {

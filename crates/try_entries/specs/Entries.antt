@@ -35,7 +35,8 @@ yieldsNote old note end =
 unfoldable pub refusedAs : Kernel → List ℕ → List ℕ → ℕ → Answer → Outcome
 refusedAs k bytes log used a =
     let l = calledWith k bytes log used in
-    cond (eqb (length (partCalled k bytes (logCalled k bytes log used) used)) 0) (outcome (l .answer .number) (cameBack l a k used)) (outcome 0 false)
+    cond (eqb (length (partCalled k bytes (logCalled k bytes log used) used)) 0) (outcome (l .answer .number) (cameBack l a k used))
+    (outcome 0 false)
 
 -- an accepted call on k came back with l: its answer is the one that its note tells, and the undo gives k back
 unfoldable pub acceptedAs : Logged → List ℕ → Kernel → ℕ → Bool

@@ -6,15 +6,15 @@ ghost use Rattle.spec_answers.specs.Steps.{answer};
 ghost use Rattle.spec_answers.specs.Logs.{calledWith};
 ghost use Rattle.try_entries.specs.Entries.{valueIn, yieldsNote};
 use crate::returned::came_back;
-use spec_answers::Answer;
-use spec_answers::Logged;
 use base_bytes::bytes::byte_at;
 use base_bytes::bytes::same_bytes;
-use spec_kernel::records::Kernel;
 use code_notes_back::frames;
 use code_notes_back::frames::Decoded;
 use code_notes_back::last;
 use replay::logs;
+use spec_answers::Answer;
+use spec_answers::Logged;
+use spec_kernel::records::Kernel;
 
 // The call with an empty log, which has room for any note.
 pub fn apart(k: Kernel, bytes: [u8; 16]) -> Logged

@@ -11,11 +11,11 @@ use crate::returned::same_answer;
 use crate::returned::without_value;
 use crate::tallies::Outcome;
 use crate::tallies::ended;
+use replay::logs;
+use replay::undos;
 use spec_answers::Answer;
 use spec_answers::Logged;
 use spec_kernel::records::Kernel;
-use replay::logs;
-use replay::undos;
 
 // The length of the part that a call appends.
 pub fn appended(k: Kernel, bytes: [u8; 16], log: &mut [u8], used: usize) -> usize

@@ -22,13 +22,13 @@
 // three times for each record. Every full, short and beyond is refused. How many of the others are accepted is not known from
 // outside: a flipped byte may be an old value that some other state had, and where the last note is missing, the one before it may be
 // undone from the later state. The last line has all wrong ones; it must be 0.
-use spec_answers::Logged;
 use base_bytes::bytes::byte_at;
 use base_bytes::bytes::same_bytes;
 use base_bytes::pens;
-use spec_kernel::records::Kernel;
 use code_notes_back::last;
 use replay::logs;
+use spec_answers::Logged;
+use spec_kernel::records::Kernel;
 use try_entries::again;
 use try_entries::copies::copied;
 use try_entries::entries;

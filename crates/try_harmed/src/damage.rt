@@ -1,5 +1,6 @@
 // Damage to a state: one field of one record, one table or the state itself gets a value that a generator draws, and so does the record's
 // id or the table's place.
+use base_queue::Queue;
 use spec_kernel::records::Condition;
 use spec_kernel::records::Event;
 use spec_kernel::records::Kernel;
@@ -7,7 +8,6 @@ use spec_kernel::records::Message;
 use spec_kernel::records::Semaphore;
 use spec_kernel::records::Thread;
 use spec_kernel::records::Wake;
-use base_queue::Queue;
 
 // Threads have 7 fields, semaphores 5, events 3, messages 7, the tables 6 (length and one place of each of three), and the state 5 more
 // (bits, uptime, two levels, runner).

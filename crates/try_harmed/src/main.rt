@@ -18,11 +18,11 @@
 // has all wrong ones; it must be 0. How many are broken, refused or accepted depends on what was drawn.
 mod damage;
 
-use spec_answers::Logged;
-use spec_kernel::records::Kernel;
 use code_notes_back::last;
 use replay::logs;
 use replay::undos;
+use spec_answers::Logged;
+use spec_kernel::records::Kernel;
 use try_entries::again;
 use try_entries::copies::copied;
 use try_entries::entries;

@@ -44,15 +44,19 @@ loop-again c =
     let ns = c .before .before .before .before .before .before .before .before .before .before .args .numbers .now in
     let l = c .before .before .before .before .before .before .before .loop in
     let b = c .before .before .put-number in
-    let h : l .i < length ns = c .before .before .before .before .before .before .loop-test .taken in
-    (omega arith, b .kept .0 ∙ l .inv .1, l .inv .2 ∙ rw (line-next ns (l .i) h, puts-append, b .ensures, c .before .before .before .end-of .ensures))
+    let h : l .i < length ns = c .before .before .before .before .before .before .loop-test .taken in (
+      omega arith,
+      b .kept .0 ∙ l .inv .1,
+      l .inv .2 ∙ rw (line-next ns (l .i) h, puts-append, b .ensures, c .before .before .before .end-of .ensures),
+    )
 
 same-length : tie.Need-same-length Inv-loop μ-loop
 same-length c = search needs
 
 returns : tie.Need-returns Inv-loop μ-loop
 unfolding puts line
-returns c = sym (c .before .loop .inv .2 ∙ rw (drop-of-length-le (c .before .before .before .before .args .numbers .now) (c .loop-test .left)))
+returns c =
+    sym (c .before .loop .inv .2 ∙ rw (drop-of-length-le (c .before .before .before .before .args .numbers .now) (c .loop-test .left)))
 
 pub put-line-spec : {M : Type 1} → statement M
 put-line-spec =

@@ -38,7 +38,8 @@ returns c =
     let small : a .n < 2 ^ 64 = search needs in
     let e : take (d .result) (d .last .1 .0) ≡ decimal (a .n) = d .ensures .1 .1 ∙ spelt _ _ (d .ensures .1 .0) small in
     let w = pen (a .out .now) (a .at) in
-    c .before .before .put-byte .ensures ∙ ap (λ (q : Pen). put q (a .end)) (p .ensures ∙ ap (puts w) e) ∙ sym (puts-append w (decimal (a .n)) (a .end ∷ []))
+    c .before .before .put-byte .ensures ∙ ap (λ (q : Pen). put q (a .end)) (p .ensures ∙ ap (puts w) e)
+    ∙ sym (puts-append w (decimal (a .n)) (a .end ∷ []))
 
 pub put-number-spec : {M : Type 1} → statement M
 put-number-spec =

@@ -40,7 +40,8 @@ fronted-requires : tie.Need-fronted-requires Inv-loop μ-loop
 fronted-requires c κs = search needs
 
 -- where the two arms meet
-placed : (c : tie.Joined2 Inv-loop μ-loop) → c .if2 .place ≡ min (c .before .before .before .before .args .i) (c .before .before .size .result)
+placed : (c : tie.Joined2 Inv-loop μ-loop)
+    → c .if2 .place ≡ min (c .before .before .before .before .args .i) (c .before .before .size .result)
 placed c = ⊎-elim (λ w. omega arith) (λ w. omega arith) (c .if2 .came)
 
 array-write-a : tie.Need-array-write-a Inv-loop μ-loop
@@ -85,8 +86,13 @@ loop-again c =
     let h = length-take-le n (a .q .at) (omega arith) in
     let b = length-withAt (a .x) p s in
     let v : getD (withAt p (a .x) s) (l .k + 1) 0 ≡ getD (a .q .at) (l .k) 0 =
-    rw add-one (withAt-after (a .x) p (l .k) s (omega arith) ∙ getD-take n (a .q .at) (l .k) 0 (omega arith)) in
-    (omega arith, omega arith, omega arith, omega arith, rw (l .inv .4) (pad-next (withAt p (a .x) s) (l .k + 1) _ (omega arith) (omega arith) (sym v)))
+    rw add-one (withAt-after (a .x) p (l .k) s (omega arith) ∙ getD-take n (a .q .at) (l .k) 0 (omega arith)) in (
+      omega arith,
+      omega arith,
+      omega arith,
+      omega arith,
+      rw (l .inv .4) (pad-next (withAt p (a .x) s) (l .k + 1) _ (omega arith) (omega arith) (sym v)),
+    )
 
 add-t23 : tie.Need-add-t23 Inv-loop μ-loop
 add-t23 c = search needs
@@ -105,7 +111,12 @@ returns-2 c =
     let h = length-take-le n (a .q .at) (omega arith) in
     let b = length-withAt (a .x) p s in
     let m : min (a .i) (length s) ≡ p = omega arith in
-    rw (lt-ltb (length (items (a .q))) 64 (omega arith), sized-items (a .q) n (c .before .before .before .before .before .size .ensures), withAt-min (a .x) (a .i) s, m)
+    rw (
+      lt-ltb (length (items (a .q))) 64 (omega arith),
+      sized-items (a .q) n (c .before .before .before .before .before .size .ensures),
+      withAt-min (a .x) (a .i) s,
+      m,
+    )
     (queue-eq (omega arith) (l .inv .4 ∙ ap pad (take-all (l .k + 1) _ (omega arith))))
 
 pub with-at-spec : {M : Type 1} → statement M

@@ -66,7 +66,8 @@ returns : tie.Need-returns Inv-loop μ-loop
 returns c =
     let l = c .before .loop in
     let e : l .i ≡ c .before .before .size .result = omega arith in
-    rw (sized-items (c .before .before .before .before .args .q) _ (c .before .before .size .ensures), ← e) (queue-eq (l .inv .2) (l .inv .3))
+    rw (sized-items (c .before .before .before .before .args .q) _ (c .before .before .size .ensures), ← e)
+    (queue-eq (l .inv .2) (l .inv .3))
 
 pub without-spec : {M : Type 1} → statement M
 without-spec =

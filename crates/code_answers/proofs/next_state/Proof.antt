@@ -26,7 +26,8 @@ runner-of-requires : tie.Need-runner-of-requires
 runner-of-requires c κs = search needs
 
 -- the next state, from who runs in the state that the effect leaves
-runs : (u : Kernel) (t : ℕ) → t ≡ runnerOf (u .unscheduled) (u .critical) (u .runner) (firstOf (items (u .places))) (thread u (firstOf (items (u .places))))
+runs : (u : Kernel) (t : ℕ)
+    → t ≡ runnerOf (u .unscheduled) (u .critical) (u .runner) (firstOf (items (u .places))) (thread u (firstOf (items (u .places))))
     → withRunner t u ≡ scheduled u
 unfolding runnerOf scheduled chosen
 runs u t e = rw e
@@ -35,7 +36,8 @@ returns : tie.Need-returns
 returns c =
     let s = c .before .before .before .before .before in
     let u : Kernel = s .effect .result in
-    runs u (c .runner-of .result) (c .runner-of .ensures ∙ rw (c .before .thread-at .ensures, c .before .before .before .first .ensures)) ∙ ap scheduled (s .effect .ensures)
+    runs u (c .runner-of .result) (c .runner-of .ensures ∙ rw (c .before .thread-at .ensures, c .before .before .before .first .ensures))
+    ∙ ap scheduled (s .effect .ensures)
 
 pub next-state-spec : {M : Type 1} → statement M
 next-state-spec =

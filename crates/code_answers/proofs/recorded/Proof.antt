@@ -33,13 +33,15 @@ refused-requires : tie.Need-refused-requires
 refused-requires c κs = search needs
 
 -- the call's number, by the bytes
-number : (c : tie.After-number-of) → let a = c .before .before .before .before .args in c .number-of .result ≡ numberOf (a .k) (callOf (a .bytes))
+number : (c : tie.After-number-of) → let a =
+    c .before .before .before .before .args in c .number-of .result ≡ numberOf (a .k) (callOf (a .bytes))
 number c =
     let s = c .before .before .before .before in
     let k = s .args .k in
     let all : length (k .threads) ≡ 32 = sym (length-map (k .threads) _) ∙ s .good .0 .1 .1 .0 .1 .0 .1 in
     let byte : c .before .before .call-of .result .a < 256 = omega arith in
-    number-by k _ (callOf (s .args .bytes)) _ (c .before .named-by .ensures) (c .before .before .call-of .ensures) all byte (c .number-of .ensures)
+    number-by k _ (callOf (s .args .bytes)) _ (c .before .named-by .ensures) (c .before .before .call-of .ensures) all byte
+    (c .number-of .ensures)
 
 returns : tie.Need-returns
 returns c =
@@ -81,10 +83,16 @@ put-message-part-requires : tie.Need-put-message-part-requires
 put-message-part-requires c κs = search needs
 
 -- the record and the sections, one behind the other
-fronted : (c : tie.After-put-message-part) → let a = c .before .before .before .before .before .before .before .before .before .before .before .before .before .before .before .before .before .before .before .before .args in
-    pen (c .put-message-part .last .0) (c .put-message-part .result) ≡ puts (pen (replicate 2048 0) 0) (frontIn (a .k) (a .bytes) (c .before .before .before .before .before .before .before .before .before .before .before .before .before .before .next-state .result) (c .before .before .before .before .before .before .before .before .before .before .before .before .before .before .before .before .before .named-by .result .found))
+fronted : (c : tie.After-put-message-part) → let a =
+    c .before .before .before .before .before .before .before .before .before .before .before .before .before .before .before .before .before .before .before .before .args in
+    pen (c .put-message-part .last .0) (c .put-message-part .result)
+    ≡ puts (pen (replicate 2048 0) 0)
+    (frontIn (a .k) (a .bytes)
+    (c .before .before .before .before .before .before .before .before .before .before .before .before .before .before .next-state .result)
+    (c .before .before .before .before .before .before .before .before .before .before .before .before .before .before .before .before .before .named-by .result .found))
 fronted c =
-    let a = c .before .before .before .before .before .before .before .before .before .before .before .before .before .before .before .before .before .before .before .before .args in
+    let a =
+    c .before .before .before .before .before .before .before .before .before .before .before .before .before .before .before .before .before .before .before .before .args in
     let named : c .before .before .before .before .before .before .before .before .before .before .before .before .before .before .before .before .before .named-by .result ≡ namedBy (a .k) (callOf (a .bytes)) = c .before .before .before .before .before .before .before .before .before .before .before .before .before .before .before .before .before .named-by .ensures ∙ ap (namedBy (a .k)) (c .before .before .before .before .before .before .before .before .before .before .before .before .before .before .before .before .before .before .call-of .ensures) in
     rw (
       c .put-message-part .ensures,
@@ -103,16 +111,27 @@ put-end-requires : tie.Need-put-end-requires
 put-end-requires c κs = search needs
 
 -- what the buffer holds then is the note
-composed-note : (c : tie.After-put-end) → let a = c .before .before .before .before .before .before .before .before .before .before .before .before .before .before .before .before .before .before .before .before .before .before .before .args in
-    (c .put-end .result ≤ length (c .put-end .last .0)) × (take (c .put-end .result) (c .put-end .last .0) ≡ noteIn (a .k) (a .bytes) (c .before .before .before .before .before .before .before .before .before .before .before .before .before .before .before .before .before .next-state .result) (c .before .before .before .before .before .before .before .before .before .before .before .before .before .before .before .before .before .before .before .before .named-by .result .found))
+composed-note : (c : tie.After-put-end) → let a =
+    c .before .before .before .before .before .before .before .before .before .before .before .before .before .before .before .before .before .before .before .before .before .before .before .args in
+    (c .put-end .result ≤ length (c .put-end .last .0))
+    × (take (c .put-end .result) (c .put-end .last .0) ≡ noteIn (a .k) (a .bytes)
+    (c .before .before .before .before .before .before .before .before .before .before .before .before .before .before .before .before .before .next-state .result) (c .before .before .before .before .before .before .before .before .before .before .before .before .before .before .before .before .before .before .before .before .named-by .result .found))
 composed-note c =
-    let s = c .before .before .before .before .before .before .before .before .before .before .before .before .before .before .before .before .before .before .before .before .before .before .before in
+    let s =
+    c .before .before .before .before .before .before .before .before .before .before .before .before .before .before .before .before .before .before .before .before .before .before .before in
     let k = s .args .k in
     let bytes = s .args .bytes in
     let sixteen : length bytes ≡ 16 = s .good .1 .0 .1 .0 .1 in
     let room : 2048 ≤ length {A = ℕ} (replicate 2048 0) = rw length-replicate (omega arith) in
     let e = note-closed (replicate 2048 0) _ _ k bytes _ _ _ sixteen room (fronted (c .before .before .before)) (c .put-end .ensures) in
-    let w = composed (replicate 2048 0) _ _ _ e (rw length-replicate (omega (arith, note-short k bytes (c .before .before .before .before .before .before .before .before .before .before .before .before .before .before .before .before .before .next-state .result) (c .before .before .before .before .before .before .before .before .before .before .before .before .before .before .before .before .before .before .before .before .named-by .result .found) sixteen))) in
+    let w =
+    composed (replicate 2048 0) _ _ _ e
+    (rw length-replicate
+    (omega (
+      arith,
+      note-short k bytes
+          (c .before .before .before .before .before .before .before .before .before .before .before .before .before .before .before .before .before .next-state .result) (c .before .before .before .before .before .before .before .before .before .before .before .before .before .before .before .before .before .before .before .before .named-by .result .found) sixteen,
+    ))) in
     (w .0, w .1)
 
 array-share-prefix-buffer : tie.Need-array-share-prefix-buffer
@@ -125,18 +144,27 @@ write-requires : tie.Need-write-requires
 write-requires c κs = search needs
 
 -- what the writer leaves, by the bytes
-written : (c : tie.After-write) → let a = c .before .before .before .before .before .before .before .before .before .before .before .before .before .before .before .before .before .before .before .before .before .before .before .before .before .before .before .args in
-    Left (a .k) (a .bytes) (a .log .now) (c .write .last .0) (a .used) (c .write .result) (c .before .before .before .before .before .before .before .before .before .before .before .before .before .before .before .before .before .before .before .before .before .before .before .before .named-by .result .found) (c .before .before .before .before .before .before .before .before .before .before .before .before .before .before .before .before .before .before .before .before .before .next-state .result)
+written : (c : tie.After-write) → let a =
+    c .before .before .before .before .before .before .before .before .before .before .before .before .before .before .before .before .before .before .before .before .before .before .before .before .before .before .before .args in
+    Left (a .k) (a .bytes) (a .log .now) (c .write .last .0) (a .used) (c .write .result)
+    (c .before .before .before .before .before .before .before .before .before .before .before .before .before .before .before .before .before .before .before .before .before .before .before .before .named-by .result .found) (c .before .before .before .before .before .before .before .before .before .before .before .before .before .before .before .before .before .before .before .before .before .next-state .result)
 written c =
-    let s = c .before .before .before .before .before .before .before .before .before .before .before .before .before .before .before .before .before .before .before .before .before .before .before .before .before .before .before in
+    let s =
+    c .before .before .before .before .before .before .before .before .before .before .before .before .before .before .before .before .before .before .before .before .before .before .before .before .before .before .before in
     let k = s .args .k in
     let x : c .before .before .before .before .before .before .before .before .before .before .before .before .before .before .before .before .before .before .before .before .before .before .before .before .before .call-of .result ≡ callOf (s .args .bytes) = c .before .before .before .before .before .before .before .before .before .before .before .before .before .before .before .before .before .before .before .before .before .before .before .before .before .call-of .ensures in
     let sixteen : length (s .args .bytes) ≡ 16 = s .good .1 .0 .1 .0 .1 in
     let all : length (k .threads) ≡ 32 = sym (length-map (k .threads) _) ∙ s .good .0 .1 .1 .0 .1 .0 .1 in
-    let n = noteIn k (s .args .bytes) (c .before .before .before .before .before .before .before .before .before .before .before .before .before .before .before .before .before .before .before .before .before .next-state .result) (c .before .before .before .before .before .before .before .before .before .before .before .before .before .before .before .before .before .before .before .before .before .before .before .before .named-by .result .found) in
-    let w : (c .write .last .0 ≡ noted (s .args .log .now) (s .args .used) n) × (c .write .result ≡ ends (s .args .log .now) (s .args .used) n) = rw (← composed-note (c .before .before .before .before) .1) (c .write .ensures) in
-    left k (s .args .bytes) (s .args .log .now) _ (s .args .used) _ _ _ sixteen all (sym (number (c .before .before .before .before .before .before .before .before .before .before .before .before .before .before .before .before .before .before .before .before .before .before .before)) ∙ c .before .before .before .before .before .before .before .before .before .before .before .before .before .before .before .before .before .before .before .before .before .before .if1 .left)
-    (value-by k _ (callOf (s .args .bytes)) _ (c .before .before .before .before .before .before .before .before .before .before .before .before .before .before .before .before .before .before .before .before .before .before .before .before .named-by .ensures) x) (c .before .before .before .before .before .before .before .before .before .before .before .before .before .before .before .before .before .before .before .before .before .next-state .ensures ∙ ap (λ (y : Call). nextState k y) x) w
+    let n =
+    noteIn k (s .args .bytes)
+    (c .before .before .before .before .before .before .before .before .before .before .before .before .before .before .before .before .before .before .before .before .before .next-state .result) (c .before .before .before .before .before .before .before .before .before .before .before .before .before .before .before .before .before .before .before .before .before .before .before .before .named-by .result .found) in
+    let w : (c .write .last .0 ≡ noted (s .args .log .now) (s .args .used) n)
+    × (c .write .result ≡ ends (s .args .log .now) (s .args .used) n) =
+    rw (← composed-note (c .before .before .before .before) .1) (c .write .ensures) in
+    left k (s .args .bytes) (s .args .log .now) _ (s .args .used) _ _ _ sixteen all
+    (sym (number (c .before .before .before .before .before .before .before .before .before .before .before .before .before .before .before .before .before .before .before .before .before .before .before)) ∙ c .before .before .before .before .before .before .before .before .before .before .before .before .before .before .before .before .before .before .before .before .before .before .if1 .left)
+    (value-by k _ (callOf (s .args .bytes)) _
+    (c .before .before .before .before .before .before .before .before .before .before .before .before .before .before .before .before .before .before .before .before .before .before .before .before .named-by .ensures) x) (c .before .before .before .before .before .before .before .before .before .before .before .before .before .before .before .before .before .before .before .before .before .next-state .ensures ∙ ap (λ (y : Call). nextState k y) x) w
 
 refused-requires-2 : tie.Need-refused-requires-2
 refused-requires-2 c κs = search needs

@@ -18,7 +18,8 @@ use Rattle.code_effects.proofs.effect.Statement.{statement}
 use Rattle.code_effects.proofs.effect.Tie as tie
 
 -- what the five kinds of signals do, by the number of the kind
-signals-at : (k : Kernel) (c : Call) (m : ℕ) → signalled k (asKind c m) ≡ getD effectsOfKinds m noKind .does k (asKind c m) → c .kind ≡ m → signalled k c ≡ effect k c
+signals-at : (k : Kernel) (c : Call) (m : ℕ) → signalled k (asKind c m) ≡ getD effectsOfKinds m noKind .does k (asKind c m) → c .kind ≡ m
+    → signalled k c ≡ effect k c
 signals-at k c m h e =
     let mid : signalled k c ≡ getD effectsOfKinds m noKind .does k c = rw e h in
     mid ∙ does-at k c m e
@@ -26,7 +27,8 @@ signals-at k c m h e =
 -- none of the kinds that have an arm of their own
 abbrev Left : ℕ → Type 0
 Left n =
-    (((((((NoneOf n 18 × (n ≡ 19 ⊎ n ≡ 28 → ⊥)) × (n ≡ 20 → ⊥)) × (n ≡ 21 → ⊥)) × (n ≡ 24 → ⊥)) × (n ≡ 25 → ⊥)) × (n ≡ 26 → ⊥)) × (n ≡ 27 → ⊥))
+    (((((((NoneOf n 18 × (n ≡ 19 ⊎ n ≡ 28 → ⊥)) × (n ≡ 20 → ⊥)) × (n ≡ 21 → ⊥)) × (n ≡ 24 → ⊥)) × (n ≡ 25 → ⊥)) × (n ≡ 26 → ⊥))
+    × (n ≡ 27 → ⊥))
 
 left : (k : Kernel) (c : Call) → Left (c .kind) → 1 ≤ c .kind → c .kind < 31 → signalled k c ≡ effect k c
 left k c r low high =
@@ -37,8 +39,28 @@ left k c r low high =
     (λ e23. cases (eqb n 29) (λ e. signals-at k c 29 refl (eqb-true n 29 e))
     (λ e29. cases (eqb n 30) (λ e. signals-at k c 30 refl (eqb-true n 30 e))
     (λ e30.
-    let all : NoneOf n 30 =
-    ((((((((((((r .0 .0 .0 .0 .0 .0 .0, λ e. t (inl e)), r .0 .0 .0 .0 .0 .1), r .0 .0 .0 .0 .1), eqb-false n 22 e22), eqb-false n 23 e23), r .0 .0 .0 .1), r .0 .0 .1), r .0 .1), r .1), λ e. t (inr e)), eqb-false n 29 e29), eqb-false n 30 e30) in
+    let all : NoneOf n 30 = (
+      (
+        (
+          (
+            (
+              (
+                (
+                  (((((r .0 .0 .0 .0 .0 .0 .0, λ e. t (inl e)), r .0 .0 .0 .0 .0 .1), r .0 .0 .0 .0 .1), eqb-false n 22 e22), eqb-false n 23 e23),
+                  r .0 .0 .0 .1,
+                ),
+                r .0 .0 .1,
+              ),
+              r .0 .1,
+            ),
+            r .1,
+          ),
+          λ e. t (inr e),
+        ),
+        eqb-false n 29 e29,
+      ),
+      eqb-false n 30 e30,
+    ) in
     let z : n ≡ 0 = none-of n 30 all (omega arith) in
     absurd (omega (arith, z))))))
 
@@ -198,7 +220,10 @@ returns-26 c = does-past _ _ (omega arith)
 
 -- of 1 to 30, the kinds that have no arm of their own
 returns-27 : tie.Need-returns-27
-returns-27 c = c .signalled .ensures ∙ ⊎-elim (λ w. signals-at _ _ 20 refl (w .keys20)) (λ w. left (c .before .before .args .k) (c .before .before .args .c) (w .0 .rest) (w .1 .left) (w .2 .taken)) (c .before .match .came)
+returns-27 c =
+    c .signalled .ensures
+    ∙ ⊎-elim (λ w. signals-at _ _ 20 refl (w .keys20))
+    (λ w. left (c .before .before .args .k) (c .before .before .args .c) (w .0 .rest) (w .1 .left) (w .2 .taken)) (c .before .match .came)
 
 pub effect-spec : {M : Type 1} → statement M
 effect-spec =

@@ -1,4 +1,5 @@
--- `code_events::woken_in` meets its contract: of the i places passed, those whose home is h have woken. Where the arms meet, `home` is the home of the member at i; past the records that is the home of no thread.
+-- `code_events::woken_in` meets its contract: of the i places passed, those whose home is h have woken. Where the arms meet, `home` is the
+-- home of the member at i; past the records that is the home of no thread.
 use Prim.Native.Nat.{_-_}
 use mathlib.Core.Path.{_≡_, sym, ap, _∙_}
 use mathlib.Core.Logic.{⊎-elim}
@@ -70,7 +71,9 @@ unfolding wakeIn
 loop-again c =
     let a = c .before .before .before .before .before .before .before .before .before .args in
     let l = c .before .before .before .before .loop in
-    rw (c .woken .ensures) (walk-does wakeIn (isHome (a .p .records) (a .h)) (a .p) (a .p .places .at) (l .i) (l .inv) (omega arith) (eq-eqb _ _ (sym (meets (c .before .before)) ∙ c .before .if2 .taken)))
+    rw (c .woken .ensures)
+    (walk-does wakeIn (isHome (a .p .records) (a .h)) (a .p) (a .p .places .at) (l .i) (l .inv) (omega arith)
+    (eq-eqb _ _ (sym (meets (c .before .before)) ∙ c .before .if2 .taken)))
 
 loop-less-2 : tie.Need-loop-less-2 Inv-loop μ-loop
 loop-less-2 c = search needs
@@ -79,7 +82,8 @@ loop-again-2 : tie.Need-loop-again-2 Inv-loop μ-loop
 loop-again-2 c =
     let a = c .before .before .before .before .before .before .before .before .args in
     let l = c .before .before .before .loop in
-    walk-skips wakeIn (isHome (a .p .records) (a .h)) (a .p) (a .p .places .at) (l .i) (l .inv) (omega arith) (ne-eqb _ _ (λ z. c .if2 .left (meets (c .before) ∙ z)))
+    walk-skips wakeIn (isHome (a .p .records) (a .h)) (a .p) (a .p .places .at) (l .i) (l .inv) (omega arith)
+    (ne-eqb _ _ (λ z. c .if2 .left (meets (c .before) ∙ z)))
 
 returns : tie.Need-returns Inv-loop μ-loop
 unfolding wokenIn

@@ -44,8 +44,11 @@ loop-less c = search needs
 
 loop-again : tie.Need-loop-again Inv-loop μ-loop
 loop-again c =
-    let l = c .before .before .before .before .before .loop in
-    (omega arith, rw (c .woken-in .ensures) (work-true _ _ (l .i) _ (l .inv .1) (sym (c .before .before .is-true .ensures) ∙ c .before .if1 .taken)))
+    let l = c .before .before .before .before .before .loop in (
+      omega arith,
+      rw (c .woken-in .ensures)
+          (work-true _ _ (l .i) _ (l .inv .1) (sym (c .before .before .is-true .ensures) ∙ c .before .if1 .taken)),
+    )
 
 loop-less-2 : tie.Need-loop-less-2 Inv-loop μ-loop
 loop-less-2 c = search needs

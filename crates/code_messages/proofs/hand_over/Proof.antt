@@ -26,7 +26,14 @@ returns : tie.Need-returns
 unfolding handOver
 returns c =
     let told = c .before .before .before in
-    rw (c .placed .ensures, c .before .awake .ensures, c .before .before .filed .ensures, told .passed .ensures, told .before .thread-at .ensures, told .before .before .message-at .ensures)
+    rw (
+      c .placed .ensures,
+      c .before .awake .ensures,
+      c .before .before .filed .ensures,
+      told .passed .ensures,
+      told .before .thread-at .ensures,
+      told .before .before .message-at .ensures,
+    )
 
 pub hand-over-spec : {M : Type 1} → statement M
 hand-over-spec =

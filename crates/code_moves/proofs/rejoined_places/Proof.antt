@@ -16,7 +16,8 @@ has-home-requires c κs = search needs
 returns : tie.Need-returns
 returns c =
     let a = c .before .before .before .args in
-    leaves (a .id) (a .q) _ (c .before .before .without .ensures) (ranksAfter (a .records) (a .r)) (sym (c .before .has-home .ensures) ∙ not-true _ (c .if1 .taken))
+    leaves (a .id) (a .q) _ (c .before .before .without .ensures) (ranksAfter (a .records) (a .r))
+    (sym (c .before .has-home .ensures) ∙ not-true _ (c .if1 .taken))
 
 rank-of-requires : tie.Need-rank-of-requires
 rank-of-requires c κs = search needs

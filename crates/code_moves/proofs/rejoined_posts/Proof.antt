@@ -16,7 +16,8 @@ is-queued-requires c κs = search needs
 returns : tie.Need-returns
 returns c =
     let a = c .before .before .before .args in
-    leaves (a .id) (a .q) _ (c .before .before .without .ensures) (postAfter (a .records) (a .r)) (sym (c .before .is-queued .ensures) ∙ not-true _ (c .if1 .taken))
+    leaves (a .id) (a .q) _ (c .before .before .without .ensures) (postAfter (a .records) (a .r))
+    (sym (c .before .is-queued .ensures) ∙ not-true _ (c .if1 .taken))
 
 stream-of-requires : tie.Need-stream-of-requires
 stream-of-requires c κs = search needs

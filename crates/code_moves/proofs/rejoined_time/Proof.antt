@@ -24,7 +24,8 @@ with-at-requires c κs = search needs
 returns-2 : tie.Need-returns-2
 returns-2 c =
     let a = c .before .before .before .before .before .args in
-    joins (a .id) (a .q) _ (c .before .before .before .before .without .ensures) (wakesAfter (a .records) (a .r)) (lt-ltb 0 (a .r .ticks) (omega arith))
+    joins (a .id) (a .q) _ (c .before .before .before .before .without .ensures) (wakesAfter (a .records) (a .r))
+    (lt-ltb 0 (a .r .ticks) (omega arith))
     _ _ (c .before .wake-place .ensures) (c .with-at .ensures)
 
 pub rejoined-time-spec : {M : Type 1} → statement M

@@ -1,4 +1,5 @@
--- `code_moves::relocated` meets its contract: the record is stored, and each table is as its step says; the time queue is touched only where the ticks differ.
+-- `code_moves::relocated` meets its contract: the record is stored, and each table is as its step says; the time queue is touched only
+-- where the ticks differ.
 use native.Mathlib.Omega.{arith}
 use borrow.Author.Needs.{needs}
 use borrow.Author.Tests.{lt-ltb, le-ltb, eq-eqb, ne-eqb}
@@ -32,13 +33,24 @@ returns-2 : tie.Need-returns-2
 unfolding relocate
 returns-2 c =
     let a = c .before .before .before .before .before .before .before .before .before .before .args in
-    rw (lt-ltb (a .id) 32 (c .before .before .before .before .before .before .before .before .before .if1 .left), ne-eqb (threadIn (a .p) (a .id) .ticks) (a .r .ticks) (λ e. omega (arith, c .before .if2 .taken)), c .before .before .before .before .rejoined-places .ensures, c .rejoined-time .ensures)
+    rw (
+      lt-ltb (a .id) 32 (c .before .before .before .before .before .before .before .before .before .if1 .left),
+      ne-eqb (threadIn (a .p)
+          (a .id) .ticks) (a .r .ticks) (λ e. omega (arith, c .before .if2 .taken)),
+      c .before .before .before .before .rejoined-places .ensures,
+      c .rejoined-time .ensures,
+    )
 
 returns-3 : tie.Need-returns-3
 unfolding relocate
 returns-3 c =
     let a = c .before .before .before .before .before .before .before .before .before .args in
-    rw (lt-ltb (a .id) 32 (c .before .before .before .before .before .before .before .before .if1 .left), eq-eqb (threadIn (a .p) (a .id) .ticks) (a .r .ticks) (omega arith), c .before .before .before .rejoined-places .ensures)
+    rw (
+      lt-ltb (a .id) 32 (c .before .before .before .before .before .before .before .before .if1 .left),
+      eq-eqb (threadIn (a .p)
+          (a .id) .ticks) (a .r .ticks) (omega arith),
+      c .before .before .before .rejoined-places .ensures,
+    )
 
 pub relocated-spec : {M : Type 1} → statement M
 relocated-spec =

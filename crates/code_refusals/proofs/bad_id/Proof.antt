@@ -28,14 +28,16 @@ unfolding badIdOf
 returns-4 c =
     let a = c .before .before .before .before .args in
     let z = sym (or-false (not (a .n .thread))) in
-    run (λ m. not (a .n .thread) ≡ badIdOf (a .n) (asKind (a .c) m)) 3 3 (z, (z, (z, tt))) (a .c .kind) (c .before .before .if2 .left) (c .before .if3 .taken)
+    run (λ m. not (a .n .thread) ≡ badIdOf (a .n) (asKind (a .c) m)) 3 3 (z, (z, (z, tt))) (a .c .kind) (c .before .before .if2 .left)
+    (c .before .if3 .taken)
 
 returns-5 : tie.Need-returns-5
 unfolding badIdOf
 returns-5 c =
     let a = c .before .before .before .before .before .before .before .args in
     let z = sym (or-false (ltb 7 (a .c .a))) in
-    run (λ m. ltb 7 (a .c .a) ≡ badIdOf (a .n) (asKind (a .c) m)) 2 20 (z, (z, tt)) (a .c .kind) (c .before .before .if5 .left) (c .before .if6 .taken)
+    run (λ m. ltb 7 (a .c .a) ≡ badIdOf (a .n) (asKind (a .c) m)) 2 20 (z, (z, tt)) (a .c .kind) (c .before .before .if5 .left)
+    (c .before .if6 .taken)
 
 returns-6 : tie.Need-returns-6
 unfolding badIdOf
@@ -43,11 +45,13 @@ returns-6 c =
     let a = c .before .before .before .before .before .before .before .before .args in
     let z = sym (or-false (ltb 31 (a .c .a))) in
     let bit = run (λ m. ltb 31 (a .c .a) ≡ badIdOf (a .n) (asKind (a .c) m)) 2 in
-    ⊎-elim (λ w. bit 22 (z, (z, tt)) (a .c .kind) (c .before .before .if6 .left) (w .taken)) (λ w. bit 29 (z, (z, tt)) (a .c .kind) (omega arith) (w .2 .taken)) (c .before .if7 .came)
+    ⊎-elim (λ w. bit 22 (z, (z, tt)) (a .c .kind) (c .before .before .if6 .left) (w .taken))
+    (λ w. bit 29 (z, (z, tt)) (a .c .kind) (omega arith) (w .2 .taken)) (c .before .if7 .came)
 
 -- a kind that names no id
 none : (c : tie.At-match-rest) (t : 3 ≤ c .before .args .c .kind → c .before .args .c .kind < 6 → ⊥)
-    (s : 15 ≤ c .before .args .c .kind → c .before .args .c .kind < 24 → ⊥) (b : 28 ≤ c .before .args .c .kind → c .before .args .c .kind < 31 → ⊥)
+    (s : 15 ≤ c .before .args .c .kind → c .before .args .c .kind < 24 → ⊥)
+    (b : 28 ≤ c .before .args .c .kind → c .before .args .c .kind < 31 → ⊥)
     → false ≡ badIdOf (c .before .args .n) (c .before .args .c)
 unfolding badIdOf
 none c t s b =
@@ -81,10 +85,12 @@ returns-8 : tie.Need-returns-8
 returns-8 c = none (c .before .before .before) (λ x y. omega arith) (λ x y. omega arith) (λ x y. omega arith)
 
 returns-9 : tie.Need-returns-9
-returns-9 c = none (c .before .before .before .before .before .before .before) (λ x y. omega arith) (λ x y. omega arith) (λ x y. omega arith)
+returns-9 c =
+    none (c .before .before .before .before .before .before .before) (λ x y. omega arith) (λ x y. omega arith) (λ x y. omega arith)
 
 returns-10 : tie.Need-returns-10
-returns-10 c = none (c .before .before .before .before .before .before .before .before) (λ x y. omega arith) (λ x y. omega arith) (λ x y. omega arith)
+returns-10 c =
+    none (c .before .before .before .before .before .before .before .before) (λ x y. omega arith) (λ x y. omega arith) (λ x y. omega arith)
 
 returns-11 : tie.Need-returns-11
 unfolding badIdOf
@@ -92,7 +98,8 @@ returns-11 c =
     let a = c .before .before .args in
     let z = sym (or-false (not (a .n .semaphore .live))) in
     ⊎-elim (λ w. rw (w .keys1) (sym (or-false _)))
-    (λ w. run (λ m. not (a .n .semaphore .live) ≡ badIdOf (a .n) (asKind (a .c) m)) 5 15 (z, (z, (z, (z, (z, tt))))) (a .c .kind) (w .3 .left) (w .4 .taken))
+    (λ w. run (λ m. not (a .n .semaphore .live) ≡ badIdOf (a .n) (asKind (a .c) m)) 5 15 (z, (z, (z, (z, (z, tt))))) (a .c .kind)
+    (w .3 .left) (w .4 .taken))
     (c .before .match .came)
 
 pub bad-id-spec : {M : Type 1} → statement M

@@ -61,7 +61,8 @@ returns-6 : tie.Need-returns-6
 unfolding badNumber
 returns-6 c =
     let k = c .before .before .before .before in
-    let e : outside 1 65535 (k .before .args .c .c) ≡ false = sym (c .before .before .before .outside3 .ensures) ∙ c .before .before .if1 .left in
+    let e : outside 1 65535 (k .before .args .c .c) ≡ false =
+    sym (c .before .before .before .outside3 .ensures) ∙ c .before .before .if1 .left in
     rw (k .match .keys4, e) (sym (or-false _))
 
 returns-7 : tie.Need-returns-7

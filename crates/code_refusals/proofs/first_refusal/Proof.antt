@@ -27,12 +27,18 @@ known c = sym (c .before .unknown .ensures) ∙ c .if1 .left
 returns-2 : tie.Need-returns-2
 unfolding firstNumber
 returns-2 c =
-    rw (known (c .before .before .before), sym (c .before .before .from-interrupt .ensures) ∙ c .before .if2 .taken, lt-ltb _ _ (c .if3 .taken))
+    rw (
+      known (c .before .before .before),
+      sym (c .before .before .from-interrupt .ensures) ∙ c .before .if2 .taken,
+      lt-ltb _ _
+          (c .if3 .taken),
+    )
 
 from-thread-requires : tie.Need-from-thread-requires
 from-thread-requires c κs = search needs
 
-heard : (c : tie.Joined2) → fromInterrupt (c .before .before .before .before .args .c) && ltb 0 (c .before .before .before .before .args .critical) ≡ false
+heard : (c : tie.Joined2)
+    → fromInterrupt (c .before .before .before .before .args .c) && ltb 0 (c .before .before .before .before .args .critical) ≡ false
 heard c =
     ⊎-elim (λ w. rw (le-ltb 0 _ (w .1 .left), and-false)) (λ w. rw (sym (c .before .from-interrupt .ensures) ∙ w .left)) (c .if2 .came)
 
@@ -47,13 +53,15 @@ bad-number-requires c κs = search needs
 
 -- only the number is left to be judged
 in-order : (c : tie.Joined4)
-    → firstNumber (c .before .before .before .before .before .before .args .critical) (c .before .before .before .before .before .before .args .runner)
+    → firstNumber (c .before .before .before .before .before .before .args .critical)
+    (c .before .before .before .before .before .before .args .runner)
     (c .before .before .before .before .before .before .args .c)
     ≡ cond (badNumber (c .before .before .before .before .before .before .args .c)) 5 0
 unfolding firstNumber
 in-order c =
     let j = c .before .before in
-    let caller : fromThread (j .before .before .before .before .args .c) && eqb (j .before .before .before .before .args .runner) 255 ≡ false =
+    let caller : fromThread (j .before .before .before .before .args .c) && eqb (j .before .before .before .before .args .runner) 255
+    ≡ false =
     ⊎-elim (λ w. rw (ne-eqb _ 255 (w .1 .left), and-false)) (λ w. rw (sym (c .before .from-thread .ensures) ∙ w .left)) (c .if4 .came) in
     rw (known (j .before .before), heard j, caller)
 

@@ -14,12 +14,14 @@ returns : tie.Need-returns
 returns c =
     let a = c .before .before .args in
     let z = sym (or-false (eqb (a .unscheduled) 0)) in
-    run (λ m. eqb (a .unscheduled) 0 ≡ popsNothingAt (a .unscheduled) (a .critical) (asKind (a .c) m)) 2 9 (z, (z, tt)) (a .c .kind) (c .before .if1 .left) (c .if2 .taken)
+    run (λ m. eqb (a .unscheduled) 0 ≡ popsNothingAt (a .unscheduled) (a .critical) (asKind (a .c) m)) 2 9 (z, (z, tt)) (a .c .kind)
+    (c .before .if1 .left) (c .if2 .taken)
 
 returns-2 : tie.Need-returns-2
 returns-2 c =
     let a = c .before .before .before .before .args in
-    run (λ m. eqb (a .critical) 0 ≡ popsNothingAt (a .unscheduled) (a .critical) (asKind (a .c) m)) 2 12 (refl, (refl, tt)) (a .c .kind) (c .before .if3 .left) (c .if4 .taken)
+    run (λ m. eqb (a .critical) 0 ≡ popsNothingAt (a .unscheduled) (a .critical) (asKind (a .c) m)) 2 12 (refl, (refl, tt)) (a .c .kind)
+    (c .before .if3 .left) (c .if4 .taken)
 
 -- a kind that pops no level
 none : (u r : ℕ) (c : Call) → (9 ≤ c .kind → c .kind < 11 → ⊥) → (12 ≤ c .kind → c .kind < 14 → ⊥) → false ≡ popsNothingAt u r c
@@ -32,10 +34,12 @@ returns-3 : tie.Need-returns-3
 returns-3 c = let a = c .before .args in none (a .unscheduled) (a .critical) (a .c) (λ x y. omega arith) (λ x y. omega arith)
 
 returns-4 : tie.Need-returns-4
-returns-4 c = let a = c .before .before .before .args in none (a .unscheduled) (a .critical) (a .c) (λ x y. omega arith) (λ x y. omega arith)
+returns-4 c =
+    let a = c .before .before .before .args in none (a .unscheduled) (a .critical) (a .c) (λ x y. omega arith) (λ x y. omega arith)
 
 returns-5 : tie.Need-returns-5
-returns-5 c = let a = c .before .before .before .before .args in none (a .unscheduled) (a .critical) (a .c) (λ x y. omega arith) (λ x y. omega arith)
+returns-5 c =
+    let a = c .before .before .before .before .args in none (a .unscheduled) (a .critical) (a .c) (λ x y. omega arith) (λ x y. omega arith)
 
 pub pops-nothing-spec : {M : Type 1} → statement M
 pops-nothing-spec = tie.close (tie.spec returns returns-2 returns-3 returns-4 returns-5)

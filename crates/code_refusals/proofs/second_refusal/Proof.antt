@@ -35,9 +35,11 @@ returns-2 c =
 
 -- only the owner is left to be judged
 in-order : (c : tie.Else3)
-    → secondNumber (c .before .before .before .before .before .before .args .n) (c .before .before .before .before .before .before .args .runner)
+    → secondNumber (c .before .before .before .before .before .before .args .n)
+    (c .before .before .before .before .before .before .args .runner)
     (c .before .before .before .before .before .before .args .c)
-    ≡ cond (not (eqb (c .before .before .before .before .before .before .args .n .message .owner) (c .before .before .before .before .before .before .args .runner))) 8 0
+    ≡ cond (not (eqb (c .before .before .before .before .before .before .args .n .message .owner)
+    (c .before .before .before .before .before .before .args .runner))) 8 0
 unfolding secondNumber
 in-order c =
     rw (

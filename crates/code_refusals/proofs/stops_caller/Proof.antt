@@ -29,7 +29,8 @@ returns-5 : tie.Need-returns-5
 unfolding stopsCallerOf
 returns-5 c =
     let a = c .before .before .before .args in
-    run (λ m. true ≡ stopsCallerOf (a .n) (a .runner) (asKind (a .c) m)) 2 6 (refl, (refl, tt)) (a .c .kind) (c .before .if1 .left) (c .if2 .taken)
+    run (λ m. true ≡ stopsCallerOf (a .n) (a .runner) (asKind (a .c) m)) 2 6 (refl, (refl, tt)) (a .c .kind) (c .before .if1 .left)
+    (c .if2 .taken)
 
 -- a kind that never stops its caller
 none : (c : tie.At-match-rest) → (6 ≤ c .before .args .c .kind → c .before .args .c .kind < 8 → ⊥)

@@ -27,7 +27,8 @@ returns-2 c = rw (none-wait (c .before .before .before .before), c .before .befo
 pops-nothing-requires : tie.Need-pops-nothing-requires
 pops-nothing-requires c κs = search needs
 
-periodic : (c : tie.Joined2) → is (c .before .before .before .before .args .c) 17 && eqb (c .before .before .before .before .args .n .semaphore .period) 0 ≡ false
+periodic : (c : tie.Joined2)
+    → is (c .before .before .before .before .args .c) 17 && eqb (c .before .before .before .before .args .n .semaphore .period) 0 ≡ false
 periodic c = ⊎-elim (λ w. rw (ne-eqb _ 0 (w .2 .left), and-false)) (λ w. rw (ne-eqb _ 17 (w .left))) (c .if2 .came)
 
 returns-3 : tie.Need-returns-3
@@ -42,7 +43,8 @@ blocks-in-region-requires c κs = search needs
 -- only whether it blocks and what it takes is left to be judged
 in-order : (c : tie.Else4) → let a = c .before .before .before .before .before .before .args in
     thirdNumber (a .unscheduled) (a .critical) (a .runner) (a .n) (a .c)
-    ≡ cond (blocksOf (a .unscheduled) (a .critical) (a .runner) (a .n) (a .c)) 6 (cond (noneFreeOf (a .unscheduled) (a .critical) (a .n) (a .c)) 7 0)
+    ≡ cond (blocksOf (a .unscheduled) (a .critical) (a .runner) (a .n) (a .c)) 6
+    (cond (noneFreeOf (a .unscheduled) (a .critical) (a .n) (a .c)) 7 0)
 unfolding thirdNumber
 in-order c =
     let j = c .before .before in
@@ -57,12 +59,22 @@ none-free-requires c κs = search needs
 returns-5 : tie.Need-returns-5
 returns-5 c =
     let b = c .before .before in
-    rw (in-order (b .before .before), sym (b .before .blocks-in-region .ensures) ∙ b .if5 .left, sym (c .before .none-free .ensures) ∙ c .if6 .taken)
+    rw (
+      in-order (b .before .before),
+      sym (b .before .blocks-in-region .ensures) ∙ b .if5 .left,
+      sym (c .before .none-free .ensures)
+          ∙ c .if6 .taken,
+    )
 
 returns-6 : tie.Need-returns-6
 returns-6 c =
     let b = c .before .before in
-    rw (in-order (b .before .before), sym (b .before .blocks-in-region .ensures) ∙ b .if5 .left, sym (c .before .none-free .ensures) ∙ c .if6 .left)
+    rw (
+      in-order (b .before .before),
+      sym (b .before .blocks-in-region .ensures) ∙ b .if5 .left,
+      sym (c .before .none-free .ensures)
+          ∙ c .if6 .left,
+    )
 
 pub third-refusal-spec : {M : Type 1} → statement M
 third-refusal-spec =

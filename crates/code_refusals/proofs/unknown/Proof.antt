@@ -14,7 +14,8 @@ is-known-requires c κs = search needs
 returns : tie.Need-returns
 unfolding unknown
 returns c =
-    let e : isKnown (c .before .before .args .c) ≡ false = sym (c .before .is-known .ensures) ∙ not-true (c .before .is-known .result) (c .if1 .taken) in
+    let e : isKnown (c .before .before .args .c) ≡ false =
+    sym (c .before .is-known .ensures) ∙ not-true (c .before .is-known .result) (c .if1 .taken) in
     rw e
 
 unused-are-zero-requires : tie.Need-unused-are-zero-requires

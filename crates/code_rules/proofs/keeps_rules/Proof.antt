@@ -5,7 +5,8 @@ use mathlib.Core.List.{List, [], _∷_}
 use lib.ListN.{drop}
 use borrow.Author.Needs.{needs}
 use Rattle.spec_kernel.specs.declared.records.Kernel.{Kernel}
-use Rattle.spec_rules.specs.Tests.{placesKept, timeKept, postedKept, threadsKept, semaphoresKept, messagesKept, runnerKept, keepsRules, allOf}
+use Rattle.spec_rules.specs.Tests.{placesKept, timeKept, postedKept, threadsKept}
+use Rattle.spec_rules.specs.Tests.{semaphoresKept, messagesKept, runnerKept, keepsRules, allOf}
 use Rattle.code_rules_records.proofs.Answers.{refused, passed}
 use Rattle.code_rules.proofs.keeps_rules.Statement.{statement}
 use Rattle.code_rules.proofs.keeps_rules.Tie as tie
@@ -24,13 +25,17 @@ after-2 c = after-1 (c .before .before) ∙ rw (passed (c .before .time-kept .en
 after-3 : (c : tie.Else3) → let k = c .before .before .before .before .before .before .args .k in keepsRules k ≡ allOf (drop 3 (tests k))
 after-3 c = after-2 (c .before .before) ∙ rw (passed (c .before .posted-kept .ensures) (c .if3 .left))
 
-after-4 : (c : tie.Else4) → let k = c .before .before .before .before .before .before .before .before .args .k in keepsRules k ≡ allOf (drop 4 (tests k))
+after-4 : (c : tie.Else4) → let k =
+    c .before .before .before .before .before .before .before .before .args .k in keepsRules k ≡ allOf (drop 4 (tests k))
 after-4 c = after-3 (c .before .before) ∙ rw (passed (c .before .threads-kept .ensures) (c .if4 .left))
 
-after-5 : (c : tie.Else5) → let k = c .before .before .before .before .before .before .before .before .before .before .args .k in keepsRules k ≡ allOf (drop 5 (tests k))
+after-5 : (c : tie.Else5) → let k =
+    c .before .before .before .before .before .before .before .before .before .before .args .k in keepsRules k ≡ allOf (drop 5 (tests k))
 after-5 c = after-4 (c .before .before) ∙ rw (passed (c .before .semaphores-kept .ensures) (c .if5 .left))
 
-after-6 : (c : tie.Else6) → let k = c .before .before .before .before .before .before .before .before .before .before .before .before .args .k in keepsRules k ≡ allOf (drop 6 (tests k))
+after-6 : (c : tie.Else6) → let k =
+    c .before .before .before .before .before .before .before .before .before .before .before .before .args .k in keepsRules k
+    ≡ allOf (drop 6 (tests k))
 after-6 c = after-5 (c .before .before) ∙ rw (passed (c .before .messages-kept .ensures) (c .if6 .left))
 
 places-kept-requires : tie.Need-places-kept-requires

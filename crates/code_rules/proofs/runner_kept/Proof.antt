@@ -1,4 +1,5 @@
--- `code_rules::runner_kept` meets its contract: past the first two tests a level is held, and an id past the records is not a ready thread's.
+-- `code_rules::runner_kept` meets its contract: past the first two tests a level is held, and an id past the records is not a ready
+-- thread's.
 use Prim.Native.Nat.{_+_}
 use mathlib.Core.Path.{_≡_, sym, _∙_}
 use mathlib.Core.Bool.{false}

@@ -44,7 +44,8 @@ unfolding semaphoresKept
 returns c =
     let k : Kernel = c .before .before .before .before .before .args .t1 in
     let l = c .before .before .before .before .loop in
-    sweep-stops (test k) noSemaphore (k .semaphores) (l .i) (l .inv) (omega arith) (refused (c .before .semaphore-kept .ensures) (c .if1 .taken))
+    sweep-stops (test k) noSemaphore (k .semaphores) (l .i) (l .inv) (omega arith)
+    (refused (c .before .semaphore-kept .ensures) (c .if1 .taken))
 
 add-i : tie.Need-add-i Inv-loop μ-loop
 add-i c = search needs
@@ -57,7 +58,8 @@ unfolding semaphoresKept
 loop-again c =
     let k : Kernel = c .before .before .before .before .before .args .t1 in
     let l = c .before .before .before .before .loop in
-    sweep-goes (test k) noSemaphore (k .semaphores) (l .i) (l .inv) (omega arith) (passed (c .before .semaphore-kept .ensures) (c .if1 .left))
+    sweep-goes (test k) noSemaphore (k .semaphores) (l .i) (l .inv) (omega arith)
+    (passed (c .before .semaphore-kept .ensures) (c .if1 .left))
 
 returns-2 : tie.Need-returns-2 Inv-loop μ-loop
 unfolding semaphoresKept

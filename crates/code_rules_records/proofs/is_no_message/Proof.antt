@@ -32,13 +32,28 @@ returns-5 : tie.Need-returns-5
 unfolding isNoMessage
 returns-5 c =
     let r = c .before .before .before .before .before .before .before .before .before .before .args .r in
-    rw (eq-eqb (r .owner) 0 (omega arith), eq-eqb (r .sender) 0 (omega arith), eq-eqb (r .kind) 0 (omega arith), eq-eqb (r .size) 0 (omega arith), ne-eqb _ _ (c .if5 .taken))
+    rw (
+      eq-eqb (r .owner) 0 (omega arith),
+      eq-eqb (r .sender) 0 (omega arith),
+      eq-eqb (r .kind) 0 (omega arith),
+      eq-eqb (r .size) 0
+          (omega arith),
+      ne-eqb _ _ (c .if5 .taken),
+    )
 
 returns-6 : tie.Need-returns-6
 unfolding isNoMessage
 returns-6 c =
     let r = c .before .before .before .before .before .before .before .before .before .before .before .args .r in
-    rw (eq-eqb (r .owner) 0 (omega arith), eq-eqb (r .sender) 0 (omega arith), eq-eqb (r .kind) 0 (omega arith), eq-eqb (r .size) 0 (omega arith), eq-eqb (r .address) 0 (omega arith), and-true)
+    rw (
+      eq-eqb (r .owner) 0 (omega arith),
+      eq-eqb (r .sender) 0 (omega arith),
+      eq-eqb (r .kind) 0 (omega arith),
+      eq-eqb (r .size) 0
+          (omega arith),
+      eq-eqb (r .address) 0 (omega arith),
+      and-true,
+    )
 
 pub is-no-message-spec : {M : Type 1} → statement M
 is-no-message-spec = tie.close (tie.spec returns returns-2 returns-3 returns-4 returns-5 returns-6)

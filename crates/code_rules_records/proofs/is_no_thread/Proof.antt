@@ -16,11 +16,19 @@ ready : (c : tie.Else3) → readyFor (c .before .before .before .before .before 
 ready c = passed (c .before .ready-for .ensures) (c .if3 .left)
 
 -- past the ticks left, the rest decides
-unticked : (c : tie.Else4) → let r = c .before .before .before .before .before .before .before .before .args .r in isNoThread r ≡ allOf (noWake (r .wake) ∷ eqb (r .reply) 0 ∷ [])
+unticked : (c : tie.Else4) → let r =
+    c .before .before .before .before .before .before .before .before .args .r in isNoThread r
+    ≡ allOf (noWake (r .wake) ∷ eqb (r .reply) 0 ∷ [])
 unfolding isNoThread
 unticked c =
     let r = c .before .before .before .before .before .before .before .before .args .r in
-    rw (eq-eqb (r .priority) 0 (omega arith), eq-eqb (r .first) 0 (omega arith), ready (c .before .before), eq-eqb (r .ticks) 0 (omega arith))
+    rw (
+      eq-eqb (r .priority) 0 (omega arith),
+      eq-eqb (r .first) 0 (omega arith),
+      ready (c .before .before),
+      eq-eqb (r .ticks) 0
+          (omega arith),
+    )
 
 returns : tie.Need-returns
 unfolding isNoThread

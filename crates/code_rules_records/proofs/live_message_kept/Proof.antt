@@ -1,4 +1,5 @@
--- `code_rules_records::live_message_kept` meets its contract: the first test that fails answers. An owner past the records is no live thread.
+-- `code_rules_records::live_message_kept` meets its contract: the first test that fails answers. An owner past the records is no live
+-- thread.
 use mathlib.Core.Path.{_≡_}
 use mathlib.Core.Bool.{true, and-true}
 use lib.ListN.{length, getD}
@@ -10,7 +11,8 @@ use Rattle.spec_rules.specs.Tests.{liveMessageKept}
 use Rattle.code_rules_records.proofs.live_message_kept.Statement.{statement}
 use Rattle.code_rules_records.proofs.live_message_kept.Tie as tie
 
-lives : (c : tie.Else2) → let a = c .before .before .before .before .before .before .args in getD (a .t1) (a .r .owner) noThread .live ≡ true
+lives : (c : tie.Else2) → let a =
+    c .before .before .before .before .before .before .args in getD (a .t1) (a .r .owner) noThread .live ≡ true
 lives c = not-false _ (c .if2 .left)
 
 returns : tie.Need-returns
@@ -48,7 +50,15 @@ awaits-requires c κs = search needs
 
 returns-5 : tie.Need-returns-5
 unfolding liveMessageKept
-returns-5 c = rw (lives (c .before .before .before .before .before), lt-ltb _ _ (c .before .before .before .if3 .left), le-leb _ _ (c .before .if4 .left), c .awaits .ensures, and-true)
+returns-5 c =
+    rw (
+      lives (c .before .before .before .before .before),
+      lt-ltb _ _ (c .before .before .before .if3 .left),
+      le-leb _ _
+          (c .before .if4 .left),
+      c .awaits .ensures,
+      and-true,
+    )
 
 pub live-message-kept-spec : {M : Type 1} → statement M
 live-message-kept-spec =

@@ -1,4 +1,5 @@
--- `code_rules_records::live_thread_kept` meets its contract: the first test that fails answers. Where the arms of the reply meet, it is below 64 or 255.
+-- `code_rules_records::live_thread_kept` meets its contract: the first test that fails answers. Where the arms of the reply meet, it is
+-- below 64 or 255.
 use mathlib.Core.Path.{_≡_}
 use mathlib.Core.Bool.{true, _||_, and-true, or-true}
 use mathlib.Core.List.{[], _∷_}
@@ -19,11 +20,18 @@ sized : (c : tie.Else4)
 unfolding liveThreadKept
 sized c =
     let r = c .before .before .before .before .before .before .before .before .args .r in
-    rw (lt-ltb 0 (r .priority) (omega arith), le-leb (r .priority) 30 (omega arith), lt-ltb 0 (r .first) (omega arith), le-leb (r .first) 30 (omega arith))
+    rw (
+      lt-ltb 0 (r .priority) (omega arith),
+      le-leb (r .priority) 30 (omega arith),
+      lt-ltb 0 (r .first) (omega arith),
+      le-leb
+          (r .first) 30 (omega arith),
+    )
 
 -- where the arms meet
 meets : (c : tie.Joined5)
-    → let r = c .before .before .before .before .before .before .before .before .before .before .args .r in (ltb (r .reply) 64 || eqb (r .reply) 255) ≡ true
+    → let r = c .before .before .before .before .before .before .before .before .before .before .args .r in
+    (ltb (r .reply) 64 || eqb (r .reply) 255) ≡ true
 meets c = ⊎-elim (λ w. rw (eq-eqb _ _ (w .2 .left), or-true)) (λ w. rw (lt-ltb _ _ (w .left))) (c .if5 .came)
 
 returns : tie.Need-returns
@@ -46,7 +54,13 @@ returns-4 : tie.Need-returns-4
 unfolding liveThreadKept
 returns-4 c =
     let r = c .before .before .before .before .before .before .before .before .args .r in
-    rw (lt-ltb 0 (r .priority) (omega arith), le-leb (r .priority) 30 (omega arith), lt-ltb 0 (r .first) (omega arith), lt-leb _ _ (c .if4 .taken))
+    rw (
+      lt-ltb 0 (r .priority) (omega arith),
+      le-leb (r .priority) 30 (omega arith),
+      lt-ltb 0 (r .first) (omega arith),
+      lt-leb _ _
+          (c .if4 .taken),
+    )
 
 returns-5 : tie.Need-returns-5
 returns-5 c = rw (sized (c .before .before .before .before), le-ltb _ _ (c .before .before .if5 .taken), ne-eqb _ _ (c .if6 .taken))

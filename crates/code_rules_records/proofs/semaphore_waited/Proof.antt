@@ -24,7 +24,8 @@ returns-2 : tie.Need-returns-2
 returns-2 c = let a = c .before .before .before .before .args in rw (not-true (getD (a .t1) (a .i) noSemaphore .live) (c .if2 .taken))
 
 returns-3 : tie.Need-returns-3
-returns-3 c = let a = c .before .before .before .before .before .args in rw (not-false (getD (a .t1) (a .i) noSemaphore .live) (c .before .if2 .left))
+returns-3 c =
+    let a = c .before .before .before .before .before .args in rw (not-false (getD (a .t1) (a .i) noSemaphore .live) (c .before .if2 .left))
 
 pub semaphore-waited-spec : {M : Type 1} → statement M
 semaphore-waited-spec = tie.close (tie.spec returns mul-s array-copy-out-s returns-2 returns-3)

@@ -71,8 +71,12 @@ loop-again : tie.Need-loop-again Inv-loop μ-loop
 loop-again c =
     let a = c .before .before .before .before .before .before .before .args in
     let l = c .before .before .before .before .loop in
-    let e = rw (c .if1 .taken) at (goes-on (c .before)) in
-    (omega arith, omega arith, rw (e, length-append) (omega arith), rw (e, l .inv .3) (pad-push (kept (a .messages) (a .t) (a .posted .at) (l .i)) (l .k) _ (sym (l .inv .2)) (omega arith)))
+    let e = rw (c .if1 .taken) at (goes-on (c .before)) in (
+      omega arith,
+      omega arith,
+      rw (e, length-append) (omega arith),
+      rw (e, l .inv .3) (pad-push (kept (a .messages) (a .t) (a .posted .at) (l .i)) (l .k) _ (sym (l .inv .2)) (omega arith)),
+    )
 
 loop-less-2 : tie.Need-loop-less-2 Inv-loop μ-loop
 loop-less-2 c = search needs
@@ -90,7 +94,8 @@ returns : tie.Need-returns Inv-loop μ-loop
 returns c =
     let l = c .before .loop in
     let e : l .i ≡ c .before .before .size .result = omega arith in
-    rw (sized-items (c .before .before .before .before .args .posted) _ (c .before .before .size .ensures), ← e) (queue-eq (l .inv .2) (l .inv .3))
+    rw (sized-items (c .before .before .before .before .args .posted) _ (c .before .before .size .ensures), ← e)
+    (queue-eq (l .inv .2) (l .inv .3))
 
 pub freed-posts-spec : {M : Type 1} → statement M
 freed-posts-spec =

@@ -45,8 +45,12 @@ loop-less c = search needs
 loop-again : tie.Need-loop-again Inv-loop μ-loop
 loop-again c =
     let a = c .before .before .before .before .args in
-    let l = c .before .before .before .loop in
-    (omega arith, l .inv .1, simp length-set (omega arith), rw (c .freed-from .ensures, l .inv .3) (map-next (freedFrom (a .t)) noMessage (a .t1) (l .m) (omega arith)))
+    let l = c .before .before .before .loop in (
+      omega arith,
+      l .inv .1,
+      simp length-set (omega arith),
+      rw (c .freed-from .ensures, l .inv .3) (map-next (freedFrom (a .t)) noMessage (a .t1) (l .m) (omega arith)),
+    )
 
 returns : tie.Need-returns Inv-loop μ-loop
 returns c =

@@ -44,8 +44,12 @@ loop-less c = search needs
 
 loop-again : tie.Need-loop-again Inv-loop μ-loop
 loop-again c =
-    let l = c .before .before .before .loop in
-    (omega arith, l .inv .1, simp length-set (omega arith), rw (c .aged .ensures, l .inv .3) (map-next aged noThread (c .before .before .before .before .args .t1) (l .t) (omega arith)))
+    let l = c .before .before .before .loop in (
+      omega arith,
+      l .inv .1,
+      simp length-set (omega arith),
+      rw (c .aged .ensures, l .inv .3) (map-next aged noThread (c .before .before .before .before .args .t1) (l .t) (omega arith)),
+    )
 
 returns : tie.Need-returns Inv-loop μ-loop
 returns c =

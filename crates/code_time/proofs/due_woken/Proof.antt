@@ -1,4 +1,5 @@
--- `code_time::due_woken` meets its contract: of the i places passed, those with one tick left have woken. Where the arms meet, `ticks` is what the member at i has left; past the records that is 0.
+-- `code_time::due_woken` meets its contract: of the i places passed, those with one tick left have woken. Where the arms meet, `ticks` is
+-- what the member at i has left; past the records that is 0.
 use Prim.Native.Nat.{ℕ, _-_}
 use mathlib.Core.Path.{_≡_, sym, ap, _∙_}
 use mathlib.Core.Logic.{⊎-elim}
@@ -70,7 +71,9 @@ loop-again : tie.Need-loop-again Inv-loop μ-loop
 loop-again c =
     let p = c .before .before .before .before .before .before .before .before .before .args .p in
     let l = c .before .before .before .before .loop in
-    rw (c .time-up .ensures) (walk-does timeUp (isDue (p .records)) p (p .time .at) (l .i) (l .inv) (omega arith) (eq-eqb _ _ (sym (meets (c .before .before)) ∙ c .before .if2 .taken)))
+    rw (c .time-up .ensures)
+    (walk-does timeUp (isDue (p .records)) p (p .time .at) (l .i) (l .inv) (omega arith)
+    (eq-eqb _ _ (sym (meets (c .before .before)) ∙ c .before .if2 .taken)))
 
 loop-less-2 : tie.Need-loop-less-2 Inv-loop μ-loop
 loop-less-2 c = search needs
@@ -79,7 +82,8 @@ loop-again-2 : tie.Need-loop-again-2 Inv-loop μ-loop
 loop-again-2 c =
     let p = c .before .before .before .before .before .before .before .before .args .p in
     let l = c .before .before .before .loop in
-    walk-skips timeUp (isDue (p .records)) p (p .time .at) (l .i) (l .inv) (omega arith) (ne-eqb _ _ (λ z. c .if2 .left (meets (c .before) ∙ z)))
+    walk-skips timeUp (isDue (p .records)) p (p .time .at) (l .i) (l .inv) (omega arith)
+    (ne-eqb _ _ (λ z. c .if2 .left (meets (c .before) ∙ z)))
 
 returns : tie.Need-returns Inv-loop μ-loop
 unfolding due

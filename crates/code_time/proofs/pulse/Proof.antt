@@ -56,7 +56,16 @@ returns-2 : tie.Need-returns-2
 unfolding pulse
 returns-2 c k =
     let s = c .before .before .before .before .before .before .before .before .before in
-    rw (periodic s (c .before .before .before .before .before .before .before .if1 .left), eq-eqb (told s .ticks) 1 (sym (ticks s) ∙ c .before .before .before .before .before .if2 .taken), ← c .before .before .before .before .post .ensures k, c .stored .ensures, c .before .with-ticks .ensures, c .before .before .semaphore-at2 .ensures, s .semaphore-at .ensures)
+    rw (
+      periodic s (c .before .before .before .before .before .before .before .if1 .left),
+      eq-eqb (told s .ticks) 1 (sym (ticks s)
+          ∙ c .before .before .before .before .before .if2 .taken),
+      ← c .before .before .before .before .post .ensures k,
+      c .stored .ensures,
+      c .before .with-ticks .ensures,
+      c .before .before .semaphore-at2 .ensures,
+      s .semaphore-at .ensures,
+    )
 
 sub-left : tie.Need-sub-left
 sub-left c = search needs
@@ -71,7 +80,15 @@ returns-3 : tie.Need-returns-3
 unfolding pulse
 returns-3 c k =
     let s = c .before .before .before .before .before .before .before .before in
-    rw (periodic s (c .before .before .before .before .before .before .if1 .left), ne-eqb (told s .ticks) 1 (λ z. c .before .before .before .before .if2 .left (ticks s ∙ z)), c .stored2 .ensures, c .before .with-ticks2 .ensures, meets (c .before .before), s .semaphore-at .ensures)
+    rw (
+      periodic s (c .before .before .before .before .before .before .if1 .left),
+      ne-eqb (told s .ticks) 1
+          (λ z. c .before .before .before .before .if2 .left (ticks s ∙ z)),
+      c .stored2 .ensures,
+      c .before .with-ticks2 .ensures,
+      meets (c .before .before),
+      s .semaphore-at .ensures,
+    )
 
 pub pulse-spec : {M : Type 1} → statement M
 pulse-spec =

@@ -43,8 +43,11 @@ loop-less c = search needs
 
 loop-again : tie.Need-loop-again Inv-loop μ-loop
 loop-again c =
-    let l = c .before .before .before .loop in
-    (omega arith, sym (length-map (c .pulse .result .semaphores) _) ∙ c .pulse .ok .1 .1 .1 .0 .1 .0 .1, λ k. c .pulse .ensures k ∙ pulse-more (l .i) _ (l .inv .2 k))
+    let l = c .before .before .before .loop in (
+      omega arith,
+      sym (length-map (c .pulse .result .semaphores) _) ∙ c .pulse .ok .1 .1 .1 .0 .1 .0 .1,
+      λ k. c .pulse .ensures k ∙ pulse-more (l .i) _ (l .inv .2 k),
+    )
 
 loop-less-2 : tie.Need-loop-less-2 Inv-loop μ-loop
 loop-less-2 c = search needs

@@ -29,7 +29,8 @@ returns c =
     let after = withUptime (later (k .uptime)) k in
     rw (c .later .ensures, c .before .with-waiting .ensures)
     (c .before .before .pulses .ensures after
-    ∙ ap (λ (p : Threads). pulseFrom 0 16 (withThreads p after)) (c .before .before .before .time-passes .ensures ∙ ap timePasses (c .before .before .before .before .threads-of .ensures)))
+    ∙ ap (λ (p : Threads). pulseFrom 0 16 (withThreads p after))
+    (c .before .before .before .time-passes .ensures ∙ ap timePasses (c .before .before .before .before .threads-of .ensures)))
 
 pub tick-spec : {M : Type 1} → statement M
 tick-spec =

@@ -11,7 +11,8 @@ use Rattle.base_bytes.proofs.bytes.number_at.Statement.{statement}
 use Rattle.base_bytes.proofs.bytes.number_at.Tie as tie
 
 abbrev Inv-loop : tie.InvT-loop
-Inv-loop s at w start wide x₀ i₀ x i = (start ≡ min at (length s)) × (wide ≡ min w 4) × (i ≤ wide) × (x ≡ un (wide - i) (drop (start + i) s))
+Inv-loop s at w start wide x₀ i₀ x i =
+    (start ≡ min at (length s)) × (wide ≡ min w 4) × (i ≤ wide) × (x ≡ un (wide - i) (drop (start + i) s))
 
 abbrev μ-loop : tie.MeasureT-loop
 μ-loop s at w start wide x₀ i₀ x i = i
@@ -19,7 +20,8 @@ abbrev μ-loop : tie.MeasureT-loop
 -- with the byte before
 step : (c : tie.In-loop Inv-loop μ-loop) → let a = c .before .before .before .before .before .args in let i = c .before .loop .i in
     let start = c .before .before .before .least .result in
-    un (c .before .before .least2 .result - (i - 1)) (drop (start + (i - 1)) (a .s .now)) ≡ getD (a .s .now) (start + (i - 1)) 0 + 256 * c .before .loop .x
+    un (c .before .before .least2 .result - (i - 1)) (drop (start + (i - 1)) (a .s .now))
+    ≡ getD (a .s .now) (start + (i - 1)) 0 + 256 * c .before .loop .x
 step c =
     let a = c .before .before .before .before .before .args in
     let i = c .before .loop .i in
@@ -34,7 +36,8 @@ small c =
     let i = c .before .loop .i in
     let start = c .before .before .before .least .result in
     let wide = c .before .before .least2 .result in
-    rw (← step c) (un-word (a .s .now) (wide - (i - 1)) (start + (i - 1)) (omega arith) (λ j. c .before .before .before .before .shared-slice-known .given j .fits))
+    rw (← step c) (un-word (a .s .now) (wide - (i - 1)) (start + (i - 1)) (omega arith)
+    (λ j. c .before .before .before .before .shared-slice-known .given j .fits))
 
 least-requires : tie.Need-least-requires Inv-loop μ-loop
 least-requires c κs = search needs

@@ -34,7 +34,8 @@ returns-2 c =
     let t = c .before .before .before .before in
     let a = t .before .before .args in
     let l = t .before .loop in
-    sym (l .inv ∙ begins-other (a .bytes .now) (a .s .now) (l .i) (l .p) (t .loop-test .taken) (c .before .before .before .if1 .left) (c .if2 .taken))
+    sym (l .inv ∙ begins-other (a .bytes .now) (a .s .now) (l .i) (l .p) (t .loop-test .taken) (c .before .before .before .if1 .left)
+    (c .if2 .taken))
 
 add-p : tie.Need-add-p Inv-loop μ-loop
 add-p c = search needs
@@ -50,7 +51,8 @@ loop-again c =
     let t = c .before .before .before .before in
     let a = t .before .before .args in
     let l = t .before .loop in
-    l .inv ∙ begins-next (a .bytes .now) (a .s .now) (l .i) (l .p) (t .loop-test .taken) (c .before .before .before .if1 .left) (c .if2 .left)
+    l .inv ∙ begins-next (a .bytes .now) (a .s .now) (l .i) (l .p) (t .loop-test .taken) (c .before .before .before .if1 .left)
+    (c .if2 .left)
 
 returns-3 : tie.Need-returns-3 Inv-loop μ-loop
 returns-3 c =

@@ -11,7 +11,8 @@ use Rattle.base_bytes.proofs.Appending.{noted-room, noted-none, ends-ro
 use Rattle.base_bytes.proofs.logs.write.Statement.{statement}
 use Rattle.base_bytes.proofs.logs.write.Tie as tie
 
-nothing : (log : List ℕ) (used : ℕ) (note : List ℕ) → length log < used + length note → (log ≡ noted log used note) × (used ≡ ends log used note)
+nothing : (log : List ℕ) (used : ℕ) (note : List ℕ) → length log < used + length note
+    → (log ≡ noted log used note) × (used ≡ ends log used note)
 nothing log used note h = (sym (noted-none log used note h), sym (ends-none log used note h))
 
 returns : tie.Need-returns
@@ -37,8 +38,10 @@ returns-3 : tie.Need-returns-3
 returns-3 c =
     let a = c .before .before .before .before .before .before .before .before .args in
     let h : a .used + length (a .note .now) ≤ length (a .log .now) = omega arith in
-    let e = c .before .before .put-all .ensures ∙ puts-room (a .log .now) (a .used) (a .note .now) h in
-    (ap (λ p. p .log) e ∙ sym (noted-room (a .log .now) (a .used) (a .note .now) h), ap (λ p. p .at) e ∙ sym (ends-room (a .log .now) (a .used) (a .note .now) h))
+    let e = c .before .before .put-all .ensures ∙ puts-room (a .log .now) (a .used) (a .note .now) h in (
+      ap (λ p. p .log) e ∙ sym (noted-room (a .log .now) (a .used) (a .note .now) h),
+      ap (λ p. p .at) e ∙ sym (ends-room (a .log .now) (a .used) (a .note .now) h),
+    )
 
 pub write-spec : {M : Type 1} → statement M
 write-spec = tie.close (tie.spec returns sub-if2 returns-2 put-all-requires same-length returns-3)

@@ -11,7 +11,8 @@ use Rattle.base_bytes.proofs.pens.put_all.Tie as tie
 
 abbrev Inv-loop : tie.InvT-loop
 Inv-loop log₀ at bytes n i₀ log i =
-    (i ≤ n) × (length log ≡ length log₀) × (n ≡ min (length bytes) (length log₀ - at)) × (puts (pen log₀ at) bytes ≡ puts (pen log (at + i)) (drop i bytes))
+    (i ≤ n) × (length log ≡ length log₀) × (n ≡ min (length bytes) (length log₀ - at))
+    × (puts (pen log₀ at) bytes ≡ puts (pen log (at + i)) (drop i bytes))
 
 abbrev μ-loop : tie.MeasureT-loop
 μ-loop log₀ at bytes n i₀ log i = n - i
@@ -51,8 +52,12 @@ loop-less c = search needs
 loop-again : tie.Need-loop-again Inv-loop μ-loop
 loop-again c =
     let l = c .before .before .loop in
-    let a = c .before .before .before .before .before .before .before .args in
-    (omega arith, length-set (l .log) (a .at + l .i) _ ∙ l .inv .1, l .inv .2, l .inv .3 ∙ puts-next (l .log) (a .at) (l .i) (a .bytes .now) (omega arith) (omega arith))
+    let a = c .before .before .before .before .before .before .before .args in (
+      omega arith,
+      length-set (l .log) (a .at + l .i) _ ∙ l .inv .1,
+      l .inv .2,
+      l .inv .3 ∙ puts-next (l .log) (a .at) (l .i) (a .bytes .now) (omega arith) (omega arith),
+    )
 
 add-result : tie.Need-add-result Inv-loop μ-loop
 add-result c = search needs

@@ -11,7 +11,8 @@ use Rattle.base_rows.proofs.rows.flags_of.Statement.{statement}
 use Rattle.base_rows.proofs.rows.flags_of.Tie as tie
 
 abbrev Inv-loop : tie.InvT-loop
-Inv-loop old predicted flags₀ i₀ flags i = (i ≤ 8) × (length old ≡ 8) × (length predicted ≡ 8) × (flags ≡ flagsOf (drop i old) (drop i predicted))
+Inv-loop old predicted flags₀ i₀ flags i =
+    (i ≤ 8) × (length old ≡ 8) × (length predicted ≡ 8) × (flags ≡ flagsOf (drop i old) (drop i predicted))
 
 abbrev μ-loop : tie.MeasureT-loop
 μ-loop old predicted flags₀ i₀ flags i = i

@@ -24,7 +24,8 @@ least-requires : tie.Need-least-requires Inv-loop μ-loop
 least-requires c κs = search needs
 
 loop-holds : tie.Need-loop-holds Inv-loop μ-loop
-loop-holds c = (search needs, search needs, search needs, search needs, omega (arith, c .least .ensures), rw (c .least .ensures, drop-least))
+loop-holds c =
+    (search needs, search needs, search needs, search needs, omega (arith, c .least .ensures), rw (c .least .ensures, drop-least))
 
 array-read-field-at : tie.Need-array-read-field-at Inv-loop μ-loop
 array-read-field-at c = search needs
@@ -76,14 +77,20 @@ loop-again c =
       l .inv .2,
       simp length-set (l .inv .3),
       omega (arith, c .taken-by .ok),
-      l .inv .5 ∙ rw (n, c .before .before .field-at .ensures, c .taken-by .ensures, c .before .cut-width .ensures) (filled-next _ (l .i) _ _ (omega arith)),
+      l .inv .5 ∙ rw (n, c .before .before .field-at .ensures, c .taken-by .ensures, c .before .cut-width .ensures)
+          (filled-next _ (l .i) _ _ (omega arith)),
     )
 
 returns : tie.Need-returns Inv-loop μ-loop
 returns c =
     let a = c .before .before .before .before .args in
     let l = c .before .loop in
-    rw (l .inv .5, row-end (a .t3) (drop (l .i) (a .t5)) (drop (l .p) (a .s .now)) (l .left) (l .i) (omega arith), filled-end (l .fields) (l .i) (omega arith))
+    rw (
+      l .inv .5,
+      row-end (a .t3) (drop (l .i) (a .t5)) (drop (l .p) (a .s .now)) (l .left) (l .i) (omega arith),
+      filled-end (l .fields)
+          (l .i) (omega arith),
+    )
 
 pub row-at-spec : {M : Type 1} → statement M
 row-at-spec =

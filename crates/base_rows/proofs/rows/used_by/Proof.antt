@@ -10,7 +10,8 @@ use Rattle.base_rows.proofs.rows.used_by.Statement.{statement}
 use Rattle.base_rows.proofs.rows.used_by.Tie as tie
 
 abbrev Inv-loop : tie.InvT-loop
-Inv-loop flags widths used₀ left₀ i₀ used left i = (i ≤ 8) × (length widths ≡ 8) × (used ≤ 255 * i) × (usedBy widths flags ≡ used + usedBy (drop i widths) left)
+Inv-loop flags widths used₀ left₀ i₀ used left i =
+    (i ≤ 8) × (length widths ≡ 8) × (used ≤ 255 * i) × (usedBy widths flags ≡ used + usedBy (drop i widths) left)
 
 abbrev μ-loop : tie.MeasureT-loop
 μ-loop flags widths used₀ left₀ i₀ used left i = 8 - i

@@ -57,7 +57,12 @@ starts c = rw (c .nothing .ensures, c .before .found-by .ensures, c .before .bef
 returns : tie.Need-returns
 unfolding namedBy
 returns c =
-    rw (starts (c .before .before .before .before), c .before .before .before .match .keys2, c .is-true .ensures, c .before .event-at .ensures)
+    rw (
+      starts (c .before .before .before .before),
+      c .before .before .before .match .keys2,
+      c .is-true .ensures,
+      c .before .event-at .ensures,
+    )
 
 returns-2 : tie.Need-returns-2
 unfolding namedBy
@@ -67,7 +72,12 @@ returns-2 c =
 returns-3 : tie.Need-returns-3
 unfolding namedBy
 returns-3 c =
-    rw (starts (c .before .before .before .before .before), c .before .before .before .before .match .keys4, c .message-at2 .ensures, c .before .thread-at .ensures)
+    rw (
+      starts (c .before .before .before .before .before),
+      c .before .before .before .before .match .keys4,
+      c .message-at2 .ensures,
+      c .before .thread-at .ensures,
+    )
 
 -- a thread or a semaphore, and no other record
 abbrev only : Bool → Semaphore → Kernel → Call → Named
@@ -79,11 +89,13 @@ unfolding namedBy
 returns-4 c =
     let a = c .before .before .before .before .before .before .before .before .before .args in
     rw (starts (c .before .before .before .before .before .before), c .thread-at2 .ensures)
-    (run (λ m. only (thread (a .k) (a .c .a) .live) noSemaphore (a .k) (asKind (a .c) m) ≡ namedBy (a .k) (asKind (a .c) m)) 3 3 (refl, (refl, (refl, tt))) (a .c .kind)
+    (run (λ m. only (thread (a .k) (a .c .a) .live) noSemaphore (a .k) (asKind (a .c) m) ≡ namedBy (a .k) (asKind (a .c) m)) 3 3
+    (refl, (refl, (refl, tt))) (a .c .kind)
     (c .before .before .before .before .if1 .left) (c .before .before .before .if2 .taken))
 
 -- a kind that names no record
-none : (c : tie.At-match-rest) (t : 3 ≤ c .before .before .before .before .args .c .kind → c .before .before .before .before .args .c .kind < 6 → ⊥)
+none : (c : tie.At-match-rest)
+    (t : 3 ≤ c .before .before .before .before .args .c .kind → c .before .before .before .before .args .c .kind < 6 → ⊥)
     (s : 15 ≤ c .before .before .before .before .args .c .kind → c .before .before .before .before .args .c .kind < 20 → ⊥)
     → c .before .nothing .result ≡ namedBy (c .before .before .before .before .args .k) (c .before .before .before .before .args .c)
 unfolding namedBy
@@ -122,7 +134,8 @@ returns-8 c =
     let a = c .before .before .before .before .before .before .args in
     rw (starts (c .before .before .before), c .semaphore-at .ensures)
     (⊎-elim (λ w. rw (w .keys1))
-    (λ w. run (λ m. only false (semaphore (a .k) (a .c .a)) (a .k) (asKind (a .c) m) ≡ namedBy (a .k) (asKind (a .c) m)) 5 15 (refl, (refl, (refl, (refl, (refl, tt))))) (a .c .kind)
+    (λ w. run (λ m. only false (semaphore (a .k) (a .c .a)) (a .k) (asKind (a .c) m) ≡ namedBy (a .k) (asKind (a .c) m)) 5 15
+    (refl, (refl, (refl, (refl, (refl, tt))))) (a .c .kind)
     (w .3 .left) (w .4 .taken))
     (c .before .before .match .came))
 

@@ -18,7 +18,8 @@ first-at-home-requires c κs = search needs
 returns : tie.Need-returns
 unfolding waiterBy
 returns c =
-    rw (c .first-at-home .ensures) (⊎-elim (λ e. rw e) (λ s. ⊎-elim (λ e. rw e) (λ e. rw e) s) (c .before .before .before .before .match .keys1))
+    rw (c .first-at-home .ensures)
+    (⊎-elim (λ e. rw e) (λ s. ⊎-elim (λ e. rw e) (λ e. rw e) s) (c .before .before .before .before .match .keys1))
 
 returns-2 : tie.Need-returns-2
 unfolding waiterBy

@@ -1,4 +1,5 @@
--- `code_kernel_find::by_id::thread_at` meets its contract: an id of a record reads it, and past the last the default is the record that isn't live.
+-- `code_kernel_find::by_id::thread_at` meets its contract: an id of a record reads it, and past the last the default is the record that
+-- isn't live.
 use mathlib.Core.Path.{_≡_, sym, _∙_}
 use lib.ListN.{length}
 use borrow.Author.Needs.{needs}

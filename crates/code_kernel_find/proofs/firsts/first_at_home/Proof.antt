@@ -1,4 +1,5 @@
--- `code_kernel_find::firsts::first_at_home` meets its contract: none of the i places passed has that home. Where the arms meet, `other` is the home of the member at i; past the records that is the home of no thread.
+-- `code_kernel_find::firsts::first_at_home` meets its contract: none of the i places passed has that home. Where the arms meet, `other` is
+-- the home of the member at i; past the records that is the home of no thread.
 use Prim.Native.Nat.{_-_}
 use mathlib.Core.Path.{_≡_, sym, ap, _∙_}
 use mathlib.Core.Logic.{⊎-elim}
@@ -28,7 +29,8 @@ unfolding homeOf
 meets c =
     let a = c .before .before .before .before .before .args in
     let e : length (a .t1) ≡ 32 = search needs in
-    ⊎-elim (λ w. w .3 ∙ w .2 .ensures) (λ w. w .1 ∙ sym (ap homeOf (past-end (a .t1) noThread e (omega (arith, w .0 .left))))) (c .if1 .came)
+    ⊎-elim (λ w. w .3 ∙ w .2 .ensures) (λ w. w .1 ∙ sym (ap homeOf (past-end (a .t1) noThread e (omega (arith, w .0 .left)))))
+    (c .if1 .came)
 
 size-requires : tie.Need-size-requires Inv-loop μ-loop
 size-requires c κs = search needs

@@ -1,4 +1,5 @@
--- `code_kernel_find::firsts::next_message` meets its contract: none of the i places passed is one to take. Where the arms meet, `mine` is the test of the member at i; past the records it fails.
+-- `code_kernel_find::firsts::next_message` meets its contract: none of the i places passed is one to take. Where the arms meet, `mine` is
+-- the test of the member at i; past the records it fails.
 use Prim.Native.Nat.{_-_}
 use mathlib.Core.Path.{_≡_, sym, _∙_}
 use mathlib.Core.Logic.{⊎-elim}
@@ -61,7 +62,8 @@ unfolding firstFor
 returns c =
     let a = c .before .before .before .before .before .before .args in
     let l = c .before .before .before .loop in
-    keep-here (isMine (a .t1) (a .t) (a .mask)) (a .posted) _ (c .before .before .before .before .size .ensures) (l .i) (l .inv) (omega arith)
+    keep-here (isMine (a .t1) (a .t) (a .mask)) (a .posted) _ (c .before .before .before .before .size .ensures) (l .i) (l .inv)
+    (omega arith)
     (sym (meets (c .before)) ∙ c .if2 .taken)
 
 add-i : tie.Need-add-i Inv-loop μ-loop
@@ -74,7 +76,8 @@ loop-again : tie.Need-loop-again Inv-loop μ-loop
 loop-again c =
     let a = c .before .before .before .before .before .before .args in
     let l = c .before .before .before .loop in
-    keep-skip (isMine (a .t1) (a .t) (a .mask)) (a .posted) _ (c .before .before .before .before .size .ensures) (l .i) (l .inv) (omega arith)
+    keep-skip (isMine (a .t1) (a .t) (a .mask)) (a .posted) _ (c .before .before .before .before .size .ensures) (l .i) (l .inv)
+    (omega arith)
     (sym (meets (c .before)) ∙ c .if2 .left)
 
 returns-2 : tie.Need-returns-2 Inv-loop μ-loop

@@ -20,7 +20,8 @@ rejoined-posts-requires c κs = search needs
 
 returns-2 : tie.Need-returns-2
 unfolding repost
-returns-2 c = rw (lt-ltb (c .before .before .before .before .args .id) 64 (c .before .before .before .if1 .left), c .rejoined-posts .ensures)
+returns-2 c =
+    rw (lt-ltb (c .before .before .before .before .args .id) 64 (c .before .before .before .if1 .left), c .rejoined-posts .ensures)
 
 pub filed-spec : {M : Type 1} → statement M
 filed-spec =

@@ -21,7 +21,8 @@ same-length c = search needs
 
 returns : tie.Need-returns
 returns c =
-    let l : c .before .before .before .least .result ≡ min (c .before .before .before .before .before .before .args .at) 2048 = c .before .before .before .least .ensures in
+    let l : c .before .before .before .least .result ≡ min (c .before .before .before .before .before .before .args .at) 2048 =
+    c .before .before .before .least .ensures in
     rw (← l) (c .before .before .put-number .ensures)
 
 pub put-end-spec : {M : Type 1} → statement M

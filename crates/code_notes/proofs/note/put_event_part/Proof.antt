@@ -1,4 +1,5 @@
--- `code_notes::note::put_event_part` meets its contract: the part is written to a scratch array that is long enough, and then behind its length.
+-- `code_notes::note::put_event_part` meets its contract: the part is written to a scratch array that is long enough, and then behind its
+-- length.
 use mathlib.Core.Bool.{cond}
 use mathlib.Core.List.{[], _∷_}
 use lib.Dec.{eqb}
@@ -38,16 +39,22 @@ put-events-requires c κs = search needs
 
 -- what the scratch array holds is the part
 written : (c : tie.After-put-events) → let a = c .before .before .before .before .before .before .before .before .before .before .args in
-    (c .put-events .result ≤ length (c .put-events .last .0)) × (take (c .put-events .result) (c .put-events .last .0) ≡ eventPart (a .c) (a .k .bits) (a .k2 .bits) (a .k .events) (a .k2 .events))
+    (c .put-events .result ≤ length (c .put-events .last .0))
+    × (take (c .put-events .result) (c .put-events .last .0) ≡ eventPart (a .c) (a .k .bits) (a .k2 .bits) (a .k .events) (a .k2 .events))
 written c =
     let a = c .before .before .before .before .before .before .before .before .before .before .args in
     let s = c .before .before .before .before .before .before .before .before .event-span in
-    let e : pen (c .put-events .last .0) (c .put-events .result) ≡ puts (pen (replicate 89 0) 0) (eventPart (a .c) (a .k .bits) (a .k2 .bits) (a .k .events) (a .k2 .events)) =
+    let e : pen (c .put-events .last .0) (c .put-events .result)
+    ≡ puts (pen (replicate 89 0) 0) (eventPart (a .c) (a .k .bits) (a .k2 .bits) (a .k .events) (a .k2 .events)) =
     rw puts-append
     (c .put-events .ensures
-    ∙ (ap (λ q. puts q (eventEntries (a .k .events) (a .k2 .events) (s .result .first) (s .result .count))) (c .before .before .before .put-bits .ensures)
-    ∙ ap (λ x. puts (puts (pen (replicate 89 0) 0) (cond (eqb (a .k .bits) (a .k2 .bits)) [] (8 ∷ []))) (eventEntries (a .k .events) (a .k2 .events) (x .first) (x .count))) (s .ensures))) in
-    let w = composed (replicate 89 0) _ _ _ e (rw length-replicate (omega (arith, events-short (a .c) (a .k .bits) (a .k2 .bits) (a .k .events) (a .k2 .events)))) in
+    ∙ (ap (λ q. puts q (eventEntries (a .k .events) (a .k2 .events) (s .result .first) (s .result .count)))
+    (c .before .before .before .put-bits .ensures)
+    ∙ ap (λ x. puts (puts (pen (replicate 89 0) 0) (cond (eqb (a .k .bits) (a .k2 .bits)) [] (8 ∷ []))) (eventEntries (a .k .events)
+    (a .k2 .events) (x .first) (x .count))) (s .ensures))) in
+    let w =
+    composed (replicate 89 0) _ _ _ e
+    (rw length-replicate (omega (arith, events-short (a .c) (a .k .bits) (a .k2 .bits) (a .k .events) (a .k2 .events)))) in
     (w .0, w .1)
 
 array-share-prefix-scratch : tie.Need-array-share-prefix-scratch

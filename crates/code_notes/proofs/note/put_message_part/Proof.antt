@@ -1,4 +1,5 @@
--- `code_notes::note::put_message_part` meets its contract: the part is written to a scratch array that is long enough, and then behind its length.
+-- `code_notes::note::put_message_part` meets its contract: the part is written to a scratch array that is long enough, and then behind its
+-- length.
 use Rattle.spec_moves.specs.Standing.{postsOf}
 use Rattle.code_notes.specs.Spans.{messageSpan}
 use Rattle.code_notes_messages.specs.MessageEntries.{messageEntries}
@@ -28,7 +29,9 @@ returns : tie.Need-returns
 unfolding le
 returns c =
     let a = c .before .before .before .before .before .before .before .before .args in
-    let z : messageSpan (a .c) (a .value) .count ≡ 0 = sym (ap (λ x. x .count) (c .before .before .before .before .before .before .message-span .ensures)) ∙ c .before .before .before .before .if1 .taken in
+    let z : messageSpan (a .c) (a .value) .count ≡ 0 =
+    sym (ap (λ x. x .count) (c .before .before .before .before .before .before .message-span .ensures))
+    ∙ c .before .before .before .before .if1 .taken in
     rw z (c .before .before .put-number .ensures)
 
 cast-first : tie.Need-cast-first
@@ -43,12 +46,21 @@ put-messages-requires : tie.Need-put-messages-requires
 put-messages-requires c κs = search needs
 
 -- what the scratch array holds is the part
-written : (c : tie.After-put-messages) → let a = c .before .before .before .before .before .before .before .before .before .before .args in (c .put-messages .result ≤ length (c .put-messages .last .0)) × (take (c .put-messages .result) (c .put-messages .last .0) ≡ messagePart (a .c) (a .k2 .runner) (postsOf (a .k)) (a .k2 .messages) (a .value))
+written : (c : tie.After-put-messages) → let a =
+    c .before .before .before .before .before .before .before .before .before .before .args in
+    (c .put-messages .result ≤ length (c .put-messages .last .0))
+    × (take (c .put-messages .result) (c .put-messages .last .0) ≡ messagePart (a .c) (a .k2 .runner) (postsOf (a .k)) (a .k2 .messages)
+    (a .value))
 written c =
     let a = c .before .before .before .before .before .before .before .before .before .before .args in
-    let e : pen (c .put-messages .last .0) (c .put-messages .result) ≡ puts (pen (replicate 1088 0) 0) (messagePart (a .c) (a .k2 .runner) (postsOf (a .k)) (a .k2 .messages) (a .value)) =
-    c .put-messages .ensures ∙ ap (λ x. puts (pen (replicate 1088 0) 0) (messageEntries (a .c) (a .k2 .runner) (postsOf (a .k)) (a .k2 .messages) (x .first) (x .count))) (c .before .before .before .before .before .before .before .before .message-span .ensures) in
-    let w = composed (replicate 1088 0) _ _ _ e (rw length-replicate (omega (arith, messages-short (a .c) (a .k2 .runner) (postsOf (a .k)) (a .k2 .messages) (a .value)))) in
+    let e : pen (c .put-messages .last .0) (c .put-messages .result)
+    ≡ puts (pen (replicate 1088 0) 0) (messagePart (a .c) (a .k2 .runner) (postsOf (a .k)) (a .k2 .messages) (a .value)) =
+    c .put-messages .ensures
+    ∙ ap (λ x. puts (pen (replicate 1088 0) 0) (messageEntries (a .c) (a .k2 .runner) (postsOf (a .k)) (a .k2 .messages) (x .first)
+    (x .count))) (c .before .before .before .before .before .before .before .before .message-span .ensures) in
+    let w =
+    composed (replicate 1088 0) _ _ _ e
+    (rw length-replicate (omega (arith, messages-short (a .c) (a .k2 .runner) (postsOf (a .k)) (a .k2 .messages) (a .value)))) in
     (w .0, w .1)
 
 array-share-prefix-scratch : tie.Need-array-share-prefix-scratch

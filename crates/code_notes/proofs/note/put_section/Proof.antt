@@ -18,7 +18,8 @@ same-length : tie.Need-same-length
 same-length c = search needs
 
 returns : tie.Need-returns
-returns c = rw (c .before .before .put-all .ensures, c .before .before .before .before .before .before .put-number .ensures, two-bytes, puts-append)
+returns c =
+    rw (c .before .before .put-all .ensures, c .before .before .before .before .before .before .put-number .ensures, two-bytes, puts-append)
 
 pub put-section-spec : {M : Type 1} → statement M
 put-section-spec =

@@ -1,4 +1,5 @@
--- `code_notes::note::put_semaphore_part` meets its contract: the part is written to a scratch array that is long enough, and then behind its length.
+-- `code_notes::note::put_semaphore_part` meets its contract: the part is written to a scratch array that is long enough, and then behind
+-- its length.
 use Rattle.code_notes.specs.Spans.{semaphoreSpan}
 use Rattle.code_notes_semaphores.specs.SemaphoreEntries.{semaphoreEntries}
 use Rattle.code_notes.specs.SectionsOf.{semaphorePart}
@@ -27,7 +28,9 @@ returns : tie.Need-returns
 unfolding le
 returns c =
     let a = c .before .before .before .before .before .before .before .before .args in
-    let z : semaphoreSpan (a .c) (a .value) .count ≡ 0 = sym (ap (λ x. x .count) (c .before .before .before .before .before .before .semaphore-span .ensures)) ∙ c .before .before .before .before .if1 .taken in
+    let z : semaphoreSpan (a .c) (a .value) .count ≡ 0 =
+    sym (ap (λ x. x .count) (c .before .before .before .before .before .before .semaphore-span .ensures))
+    ∙ c .before .before .before .before .if1 .taken in
     rw z (c .before .before .put-number .ensures)
 
 cast-first : tie.Need-cast-first
@@ -42,12 +45,21 @@ put-semaphores-requires : tie.Need-put-semaphores-requires
 put-semaphores-requires c κs = search needs
 
 -- what the scratch array holds is the part
-written : (c : tie.After-put-semaphores) → let a = c .before .before .before .before .before .before .before .before .before .args in (c .put-semaphores .result ≤ length (c .put-semaphores .last .0)) × (take (c .put-semaphores .result) (c .put-semaphores .last .0) ≡ semaphorePart (a .c) (a .k .semaphores) (a .k2 .semaphores) (a .value))
+written : (c : tie.After-put-semaphores) → let a =
+    c .before .before .before .before .before .before .before .before .before .args in
+    (c .put-semaphores .result ≤ length (c .put-semaphores .last .0))
+    × (take (c .put-semaphores .result) (c .put-semaphores .last .0) ≡ semaphorePart (a .c) (a .k .semaphores) (a .k2 .semaphores)
+    (a .value))
 written c =
     let a = c .before .before .before .before .before .before .before .before .before .args in
-    let e : pen (c .put-semaphores .last .0) (c .put-semaphores .result) ≡ puts (pen (replicate 240 0) 0) (semaphorePart (a .c) (a .k .semaphores) (a .k2 .semaphores) (a .value)) =
-    c .put-semaphores .ensures ∙ ap (λ x. puts (pen (replicate 240 0) 0) (semaphoreEntries (a .c) (a .k .semaphores) (a .k2 .semaphores) (x .first) (x .count))) (c .before .before .before .before .before .before .before .semaphore-span .ensures) in
-    let w = composed (replicate 240 0) _ _ _ e (rw length-replicate (omega (arith, semaphores-short (a .c) (a .k .semaphores) (a .k2 .semaphores) (a .value)))) in
+    let e : pen (c .put-semaphores .last .0) (c .put-semaphores .result)
+    ≡ puts (pen (replicate 240 0) 0) (semaphorePart (a .c) (a .k .semaphores) (a .k2 .semaphores) (a .value)) =
+    c .put-semaphores .ensures
+    ∙ ap (λ x. puts (pen (replicate 240 0) 0) (semaphoreEntries (a .c) (a .k .semaphores) (a .k2 .semaphores) (x .first) (x .count)))
+    (c .before .before .before .before .before .before .before .semaphore-span .ensures) in
+    let w =
+    composed (replicate 240 0) _ _ _ e
+    (rw length-replicate (omega (arith, semaphores-short (a .c) (a .k .semaphores) (a .k2 .semaphores) (a .value)))) in
     (w .0, w .1)
 
 array-share-prefix-scratch : tie.Need-array-share-prefix-scratch

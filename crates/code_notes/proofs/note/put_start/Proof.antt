@@ -25,10 +25,13 @@ put-scheduler-requires c κs = search needs
 
 -- what the scratch array holds is the part
 written : (c : tie.After-put-scheduler) → let a = c .before .before .before .before .before .before .before .before .args in
-    (c .put-scheduler .result ≤ length (c .put-scheduler .last .0)) × (take (c .put-scheduler .result) (c .put-scheduler .last .0) ≡ levelsNoted (a .c) (levelsOf (a .k)) (levelsOf (a .k2)))
+    (c .put-scheduler .result ≤ length (c .put-scheduler .last .0))
+    × (take (c .put-scheduler .result) (c .put-scheduler .last .0) ≡ levelsNoted (a .c) (levelsOf (a .k)) (levelsOf (a .k2)))
 written c =
     let a = c .before .before .before .before .before .before .before .before .args in
-    let w = composed (replicate 4 0) _ _ _ (c .put-scheduler .ensures) (rw length-replicate (omega (arith, levels-short (a .c) (levelsOf (a .k)) (levelsOf (a .k2))))) in
+    let w =
+    composed (replicate 4 0) _ _ _ (c .put-scheduler .ensures)
+    (rw length-replicate (omega (arith, levels-short (a .c) (levelsOf (a .k)) (levelsOf (a .k2))))) in
     (w .0, w .1)
 
 array-share-prefix-scratch : tie.Need-array-share-prefix-scratch
@@ -41,7 +44,9 @@ put-section-requires : tie.Need-put-section-requires
 put-section-requires c κs = search needs
 
 same-length : tie.Need-same-length
-same-length c = c .before .before .put-section .kept .0 ∙ c .before .before .before .before .before .before .before .before .before .before .put-all .kept .0
+same-length c =
+    c .before .before .put-section .kept .0
+    ∙ c .before .before .before .before .before .before .before .before .before .before .put-all .kept .0
 
 returns : tie.Need-returns
 returns c =

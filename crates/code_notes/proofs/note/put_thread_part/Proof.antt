@@ -1,4 +1,5 @@
--- `code_notes::note::put_thread_part` meets its contract: the part is written to a scratch array that is long enough, and then behind its length.
+-- `code_notes::note::put_thread_part` meets its contract: the part is written to a scratch array that is long enough, and then behind its
+-- length.
 use Rattle.spec_moves.specs.Standing.{threadsOf}
 use Rattle.spec_notes.specs.Sections.{entriesFrom}
 use Rattle.code_notes.specs.Spans.{threadSpan}
@@ -30,7 +31,8 @@ unfolding le
 returns c =
     let s = c .before .before .before .before .before .before in
     let a = s .before .before .args in
-    let z : threadSpan (a .c) (a .k .runner) (a .value) (a .waiter) .count ≡ 0 = sym (ap (λ x. x .count) (s .thread-span .ensures)) ∙ c .before .before .before .before .if1 .taken in
+    let z : threadSpan (a .c) (a .k .runner) (a .value) (a .waiter) .count ≡ 0 =
+    sym (ap (λ x. x .count) (s .thread-span .ensures)) ∙ c .before .before .before .before .if1 .taken in
     rw z (c .before .before .put-number .ensures)
 
 slice-aggregate-put-threads : tie.Need-slice-aggregate-put-threads
@@ -41,16 +43,22 @@ put-threads-requires c κs = search needs
 
 -- what the scratch array holds is the part
 written : (c : tie.After-put-threads) → let a = c .before .before .before .before .before .before .before .before .before .before .args in
-    (c .put-threads .result ≤ length (c .put-threads .last .0)) × (take (c .put-threads .result) (c .put-threads .last .0) ≡ threadPart (a .c) (a .k .runner) (a .waiter) (threadsOf (a .k)) (a .k2 .threads) (a .value))
+    (c .put-threads .result ≤ length (c .put-threads .last .0))
+    × (take (c .put-threads .result) (c .put-threads .last .0) ≡ threadPart (a .c) (a .k .runner) (a .waiter) (threadsOf (a .k))
+    (a .k2 .threads) (a .value))
 written c =
     let a = c .before .before .before .before .before .before .before .before .before .before .args in
     let old = threadsOf (a .k) in
     let new = a .k2 .threads in
-    let e : pen (c .put-threads .last .0) (c .put-threads .result) ≡ puts (pen (replicate 480 0) 0) (threadPart (a .c) (a .k .runner) (a .waiter) old new (a .value)) =
+    let e : pen (c .put-threads .last .0) (c .put-threads .result)
+    ≡ puts (pen (replicate 480 0) 0) (threadPart (a .c) (a .k .runner) (a .waiter) old new (a .value)) =
     c .put-threads .ensures
-    ∙ ap (λ x. puts (pen (replicate 480 0) 0) (entriesFrom (isChanged (a .c) (a .k .runner) old new) (entryOf (a .c) old new) (x .first) (x .count)))
+    ∙ ap (λ x. puts (pen (replicate 480 0) 0) (entriesFrom (isChanged (a .c) (a .k .runner) old new) (entryOf (a .c) old new) (x .first)
+    (x .count)))
     (c .before .before .before .before .before .before .before .before .thread-span .ensures) in
-    let w = composed (replicate 480 0) _ _ _ e (rw length-replicate (omega (arith, threads-short (a .c) (a .k .runner) (a .waiter) old new (a .value)))) in
+    let w =
+    composed (replicate 480 0) _ _ _ e
+    (rw length-replicate (omega (arith, threads-short (a .c) (a .k .runner) (a .waiter) old new (a .value)))) in
     (w .0, w .1)
 
 array-share-prefix-scratch : tie.Need-array-share-prefix-scratch

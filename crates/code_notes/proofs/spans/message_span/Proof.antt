@@ -21,7 +21,9 @@ alone-requires c κs = search needs
 
 returns-2 : tie.Need-returns-2
 unfolding messageSpan
-returns-2 c = rw (ne-eqb _ 3 (c .before .before .before .before .if1 .left), sym (c .before .before .is-one-of .ensures) ∙ c .before .if2 .taken) (c .alone .ensures)
+returns-2 c =
+    rw (ne-eqb _ 3 (c .before .before .before .before .if1 .left), sym (c .before .before .is-one-of .ensures) ∙ c .before .if2 .taken)
+    (c .alone .ensures)
 
 slice-aggregate-is-one-of-2 : tie.Need-slice-aggregate-is-one-of-2
 slice-aggregate-is-one-of-2 c = search needs
@@ -37,11 +39,23 @@ alone-requires-2 c κs = search needs
 
 returns-3 : tie.Need-returns-3
 unfolding messageSpan
-returns-3 c = rw (ne-eqb _ 3 (c .before .before .before .before .before .before .before .before .if1 .left), sym (c .before .before .before .before .before .before .is-one-of .ensures) ∙ c .before .before .before .before .before .if2 .left, sym (c .before .before .before .is-one-of2 .ensures) ∙ c .before .before .if3 .taken) (c .alone2 .ensures)
+returns-3 c =
+    rw (
+      ne-eqb _ 3 (c .before .before .before .before .before .before .before .before .if1 .left),
+      sym
+          (c .before .before .before .before .before .before .is-one-of .ensures) ∙ c .before .before .before .before .before .if2 .left,
+      sym (c .before .before .before .is-one-of2 .ensures) ∙ c .before .before .if3 .taken,
+    ) (c .alone2 .ensures)
 
 returns-4 : tie.Need-returns-4
 unfolding messageSpan
-returns-4 c = rw (ne-eqb _ 3 (c .before .before .before .before .before .before .if1 .left), sym (c .before .before .before .before .is-one-of .ensures) ∙ c .before .before .before .if2 .left, sym (c .before .is-one-of2 .ensures) ∙ c .if3 .left)
+returns-4 c =
+    rw (
+      ne-eqb _ 3 (c .before .before .before .before .before .before .if1 .left),
+      sym
+          (c .before .before .before .before .is-one-of .ensures) ∙ c .before .before .before .if2 .left,
+      sym (c .before .is-one-of2 .ensures) ∙ c .if3 .left,
+    )
 
 pub message-span-spec : {M : Type 1} → statement M
 message-span-spec =

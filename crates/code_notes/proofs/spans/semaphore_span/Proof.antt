@@ -31,11 +31,23 @@ alone-requires-2 c κs = search needs
 
 returns-3 : tie.Need-returns-3
 unfolding semaphoreSpan
-returns-3 c = rw (ne-eqb _ 1 (c .before .before .before .before .before .before .before .if1 .left), ne-eqb _ 14 (c .before .before .before .before .before .if2 .left), sym (c .before .before .before .is-one-of .ensures) ∙ c .before .before .if3 .taken) (c .alone2 .ensures)
+returns-3 c =
+    rw (
+      ne-eqb _ 1 (c .before .before .before .before .before .before .before .if1 .left),
+      ne-eqb _ 14
+          (c .before .before .before .before .before .if2 .left),
+      sym (c .before .before .before .is-one-of .ensures) ∙ c .before .before .if3 .taken,
+    ) (c .alone2 .ensures)
 
 returns-4 : tie.Need-returns-4
 unfolding semaphoreSpan
-returns-4 c = rw (ne-eqb _ 1 (c .before .before .before .before .before .if1 .left), ne-eqb _ 14 (c .before .before .before .if2 .left), sym (c .before .is-one-of .ensures) ∙ c .if3 .left)
+returns-4 c =
+    rw (
+      ne-eqb _ 1 (c .before .before .before .before .before .if1 .left),
+      ne-eqb _ 14 (c .before .before .before .if2 .left),
+      sym
+          (c .before .is-one-of .ensures) ∙ c .if3 .left,
+    )
 
 pub semaphore-span-spec : {M : Type 1} → statement M
 semaphore-span-spec =

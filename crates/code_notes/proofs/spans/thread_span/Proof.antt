@@ -37,7 +37,13 @@ alone-requires-2 c κs = search needs
 
 returns-3 : tie.Need-returns-3
 unfolding threadSpan
-returns-3 c = rw (sym (c .before .before .before .before .before .before .before .before .is-one-of .ensures) ∙ c .before .before .before .before .before .before .before .if1 .left, ne-eqb _ 2 (c .before .before .before .before .before .if2 .left), sym (c .before .before .before .is-one-of2 .ensures) ∙ c .before .before .if3 .taken) (c .alone2 .ensures)
+returns-3 c =
+    rw (
+      sym (c .before .before .before .before .before .before .before .before .is-one-of .ensures)
+          ∙ c .before .before .before .before .before .before .before .if1 .left,
+      ne-eqb _ 2 (c .before .before .before .before .before .if2 .left),
+      sym (c .before .before .before .is-one-of2 .ensures) ∙ c .before .before .if3 .taken,
+    ) (c .alone2 .ensures)
 
 slice-aggregate-is-one-of-3 : tie.Need-slice-aggregate-is-one-of-3
 slice-aggregate-is-one-of-3 c = search needs
@@ -50,7 +56,14 @@ alone-requires-3 c κs = search needs
 
 returns-4 : tie.Need-returns-4
 unfolding threadSpan
-returns-4 c = rw (sym (c .before .before .before .before .before .before .before .before .before .before .is-one-of .ensures) ∙ c .before .before .before .before .before .before .before .before .before .if1 .left, ne-eqb _ 2 (c .before .before .before .before .before .before .before .if2 .left), sym (c .before .before .before .before .before .is-one-of2 .ensures) ∙ c .before .before .before .before .if3 .left, sym (c .before .before .is-one-of3 .ensures) ∙ c .before .if4 .taken) (c .alone3 .ensures)
+returns-4 c =
+    rw (
+      sym (c .before .before .before .before .before .before .before .before .before .before .is-one-of .ensures)
+          ∙ c .before .before .before .before .before .before .before .before .before .if1 .left,
+      ne-eqb _ 2 (c .before .before .before .before .before .before .before .if2 .left),
+      sym (c .before .before .before .before .before .is-one-of2 .ensures) ∙ c .before .before .before .before .if3 .left,
+      sym (c .before .before .is-one-of3 .ensures) ∙ c .before .if4 .taken,
+    ) (c .alone3 .ensures)
 
 slice-aggregate-is-one-of-4 : tie.Need-slice-aggregate-is-one-of-4
 slice-aggregate-is-one-of-4 c = search needs
@@ -63,7 +76,16 @@ alone-requires-4 c κs = search needs
 
 returns-5 : tie.Need-returns-5
 unfolding threadSpan
-returns-5 c = rw (sym (c .before .before .before .before .before .before .before .before .before .before .before .before .before .is-one-of .ensures) ∙ c .before .before .before .before .before .before .before .before .before .before .before .before .if1 .left, ne-eqb _ 2 (c .before .before .before .before .before .before .before .before .before .before .if2 .left), sym (c .before .before .before .before .before .before .before .before .is-one-of2 .ensures) ∙ c .before .before .before .before .before .before .before .if3 .left, sym (c .before .before .before .before .before .is-one-of3 .ensures) ∙ c .before .before .before .before .if4 .left, sym (c .before .before .is-one-of4 .ensures) ∙ c .before .if5 .taken) (c .alone4 .ensures)
+returns-5 c =
+    rw (
+      sym (c .before .before .before .before .before .before .before .before .before .before .before .before .before .is-one-of .ensures)
+          ∙ c .before .before .before .before .before .before .before .before .before .before .before .before .if1 .left,
+      ne-eqb _ 2 (c .before .before .before .before .before .before .before .before .before .before .if2 .left),
+      sym (c .before .before .before .before .before .before .before .before .is-one-of2 .ensures)
+          ∙ c .before .before .before .before .before .before .before .if3 .left,
+      sym (c .before .before .before .before .before .is-one-of3 .ensures) ∙ c .before .before .before .before .if4 .left,
+      sym (c .before .before .is-one-of4 .ensures) ∙ c .before .if5 .taken,
+    ) (c .alone4 .ensures)
 
 alone-requires-5 : tie.Need-alone-requires-5
 alone-requires-5 c κs = search needs
@@ -74,7 +96,8 @@ returns-6 c = rw (c .before .if6 .taken) (c .alone5 .ensures)
 
 returns-7 : tie.Need-returns-7
 unfolding threadSpan
-returns-7 c = rw (sym (c .before .before .before .before .before .before .before .before .before .before .before .before .before .before .is-one-of .ensures) ∙ c .before .before .before .before .before .before .before .before .before .before .before .before .before .if1 .left, ne-eqb _ 2 (c .before .before .before .before .before .before .before .before .before .before .before .if2 .left), sym (c .before .before .before .before .before .before .before .before .before .is-one-of2 .ensures) ∙ c .before .before .before .before .before .before .before .before .if3 .left, sym (c .before .before .before .before .before .before .is-one-of3 .ensures) ∙ c .before .before .before .before .before .if4 .left, sym (c .before .before .before .is-one-of4 .ensures) ∙ c .before .before .if5 .left, ne-eqb _ 26 (c .if6 .left))
+returns-7 c =
+    rw (sym (c .before .before .before .before .before .before .before .before .before .before .before .before .before .before .is-one-of .ensures) ∙ c .before .before .before .before .before .before .before .before .before .before .before .before .before .if1 .left, ne-eqb _ 2 (c .before .before .before .before .before .before .before .before .before .before .before .if2 .left), sym (c .before .before .before .before .before .before .before .before .before .is-one-of2 .ensures) ∙ c .before .before .before .before .before .before .before .before .if3 .left, sym (c .before .before .before .before .before .before .is-one-of3 .ensures) ∙ c .before .before .before .before .before .if4 .left, sym (c .before .before .before .is-one-of4 .ensures) ∙ c .before .before .if5 .left, ne-eqb _ 26 (c .if6 .left))
 
 pub thread-span-spec : {M : Type 1} → statement M
 thread-span-spec =

@@ -19,12 +19,22 @@ returns-2 c = rw (le-leb 2 _ (c .before .if1 .left), lt-leb _ _ (c .if2 .taken))
 returns-3 : tie.Need-returns-3
 unfolding hasLast
 returns-3 c =
-    rw (le-leb 2 _ (c .before .before .if1 .left), le-leb _ _ (c .before .if2 .left), ← c .before .before .before .last-length .ensures, lt-leb 28 _ (c .if3 .taken))
+    rw (
+      le-leb 2 _ (c .before .before .if1 .left),
+      le-leb _ _ (c .before .if2 .left),
+      ← c .before .before .before .last-length .ensures,
+      lt-leb 28 _ (c .if3 .taken),
+    )
 
 returns-4 : tie.Need-returns-4
 unfolding hasLast
 returns-4 c =
-    rw (le-leb 2 _ (c .before .before .if1 .left), le-leb _ _ (c .before .if2 .left), ← c .before .before .before .last-length .ensures, le-leb 28 _ (c .if3 .left))
+    rw (
+      le-leb 2 _ (c .before .before .if1 .left),
+      le-leb _ _ (c .before .if2 .left),
+      ← c .before .before .before .last-length .ensures,
+      le-leb 28 _ (c .if3 .left),
+    )
 
 pub has-last-spec : {M : Type 1} → statement M
 has-last-spec = tie.close (tie.spec last-length-requires returns returns-2 returns-3 returns-4)

@@ -29,7 +29,8 @@ returns c =
     let a = c .before .before .before .before .before .args in
     let s : List ℕ = a .s .now in
     let b : Bytes s = λ i. omega (arith, c .before .before .before .before .shared-slice-known .given i) in
-    let e : c .row-at .result .fields ≡ rowFrom schedulerWidths (getD s 0 0) (predictedLevels (a .c) (a .unscheduled) (a .critical) (a .runner)) (drop 1 s) =
+    let e : c .row-at .result .fields
+    ≡ rowFrom schedulerWidths (getD s 0 0) (predictedLevels (a .c) (a .unscheduled) (a .critical) (a .runner)) (drop 1 s) =
     rw (c .row-at .ensures, c .before .before .predicted .ensures, c .before .before .before .byte-at .ensures) (rw cut-scheduler) in
     (e, rw e (row-at schedulerWidths (getD s 0 0) _ (drop 1 s) (drop-bytes 1 s b) 2 (search needs)))
 

@@ -69,8 +69,10 @@ returns-3 c =
     let e = levels (c .before .before .before .before .before .before .before) in
     let g : getD r 0 0 < 256 = omega (arith, c .before .before .before .before .if1 .left) in
     let h : getD r 1 0 < 256 = omega (arith, c .before .before .before .if2 .left) in
-    let m : getD r 2 0 % 256 ≡ getD r 2 0 = mod-eq-of-lt (c .before .before .before .before .before .before .before .levels-before .ensures .1) in
-    rw (c .scheduled .ensures, c .before .before-at .ensures, m, e) (sym (back-fits (a .c) (a .k) (sectionsMeant (a .f) (a .note .now)) (rw e at g) (rw e at h)))
+    let m : getD r 2 0 % 256 ≡ getD r 2 0 =
+    mod-eq-of-lt (c .before .before .before .before .before .before .before .levels-before .ensures .1) in
+    rw (c .scheduled .ensures, c .before .before-at .ensures, m, e)
+    (sym (back-fits (a .c) (a .k) (sectionsMeant (a .f) (a .note .now)) (rw e at g) (rw e at h)))
 
 pub state-before-spec : {M : Type 1} → statement M
 state-before-spec =

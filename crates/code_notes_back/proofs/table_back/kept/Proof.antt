@@ -1,4 +1,5 @@
--- `code_notes_back::table_back::kept` meets its contract: a holds those of the i places passed that nobody touched, and k says how many they are.
+-- `code_notes_back::table_back::kept` meets its contract: a holds those of the i places passed that nobody touched, and k says how many
+-- they are.
 use Prim.Native.Nat.{ℕ, _-_, _≤_}
 use mathlib.Core.Path.{_≡_, refl, sym, _∙_}
 use mathlib.Core.Bool.{true, false}
@@ -72,7 +73,8 @@ returns : tie.Need-returns Inv-loop μ-loop
 returns c =
     let l = c .before .loop in
     let e : l .i ≡ c .before .before .size .result = omega arith in
-    rw (sized-items (c .before .before .before .before .args .q) _ (c .before .before .size .ensures), ← e) (queue-eq (l .inv .2) (l .inv .3))
+    rw (sized-items (c .before .before .before .before .args .q) _ (c .before .before .size .ensures), ← e)
+    (queue-eq (l .inv .2) (l .inv .3))
 
 pub kept-spec : {M : Type 1} → statement M
 kept-spec =

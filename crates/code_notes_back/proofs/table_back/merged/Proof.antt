@@ -68,7 +68,9 @@ loop-again : tie.Need-loop-again Inv-loop μ-loop
 loop-again c =
     let l = c .before .before .before .before .before .loop in
     let a = c .before .before .before .before .before .before .before .before .args in
-    let m = merge-next (a .t1) (a .q .at) _ (l .i) (l .j) (omega arith) (omega arith) (sym (c .before .before .before .ends .ensures) ∙ c .before .before .if1 .left) in (
+    let m =
+    merge-next (a .t1) (a .q .at) _ (l .i) (l .j) (omega arith) (omega arith)
+    (sym (c .before .before .before .ends .ensures) ∙ c .before .before .if1 .left) in (
       rw (c .placed .ensures) (at-most-one (eqb (getD (a .t1) (l .i) 0) 255) (l .j) (l .i) (l .inv .0)),
       omega arith,
       l .inv .2,
@@ -84,7 +86,8 @@ returns-2 c =
     let a = c .before .before .before .before .args in
     let l = c .before .loop in
     rw (sized-items (a .q) _ (c .before .before .size .ensures))
-    (store-done (l .a) (l .i) (l .inv .5) (l .inv .6) _ _ 64 (omega arith) (omega arith) (l .inv .7) (merge-over (a .t1) _ (l .i) (omega arith)))
+    (store-done (l .a) (l .i) (l .inv .5) (l .inv .6) _ _ 64 (omega arith) (omega arith) (l .inv .7)
+    (merge-over (a .t1) _ (l .i) (omega arith)))
 
 pub merged-spec : {M : Type 1} → statement M
 merged-spec =

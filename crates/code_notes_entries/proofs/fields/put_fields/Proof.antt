@@ -18,7 +18,12 @@ same-length c = search needs
 
 returns : tie.Need-returns
 unfolding puts
-returns c = rw (c .before .before .put-body .ensures, c .before .before .before .before .before .before .put-byte .ensures, c .before .before .before .before .before .before .before .flags-of .ensures)
+returns c =
+    rw (
+      c .before .before .put-body .ensures,
+      c .before .before .before .before .before .before .put-byte .ensures,
+      c .before .before .before .before .before .before .before .flags-of .ensures,
+    )
 
 pub put-fields-spec : {M : Type 1} → statement M
 put-fields-spec =

@@ -20,7 +20,9 @@ same-length : tie.Need-same-length
 same-length c = search needs
 
 returns-2 : tie.Need-returns-2
-returns-2 c = rw (ne-eqb _ 0 (λ e. c .before .before .before .before .if1 .left (c .before .before .before .before .before .flags-of .ensures ∙ e))) (c .before .before .put-fields .ensures)
+returns-2 c =
+    rw (ne-eqb _ 0 (λ e. c .before .before .before .before .if1 .left (c .before .before .before .before .before .flags-of .ensures ∙ e)))
+    (c .before .before .put-fields .ensures)
 
 pub put-unless-predicted-spec : {M : Type 1} → statement M
 put-unless-predicted-spec =

@@ -22,7 +22,8 @@ size-requires c κs = search needs
 returns : tie.Need-returns
 returns c =
     let a = c .before .before .before .args in
-    let h : length (items (a .q)) ≤ placeOf (a .x) (items (a .q)) = omega (arith, c .if1 .taken, c .before .size .ensures, c .before .before .place-of .ensures) in
+    let h : length (items (a .q)) ≤ placeOf (a .x) (items (a .q)) =
+    omega (arith, c .if1 .taken, c .before .size .ensures, c .before .before .place-of .ensures) in
     let e : has (a .x) (items (a .q)) ≡ false = sym (has-place (a .x) (items (a .q))) ∙ le-ltb _ _ h in
     rw e
 
@@ -34,7 +35,8 @@ cast-result c =
 returns-2 : tie.Need-returns-2
 returns-2 c =
     let a = c .before .before .before .args in
-    let h : placeOf (a .x) (items (a .q)) < length (items (a .q)) = omega (arith, c .if1 .left, c .before .size .ensures, c .before .before .place-of .ensures) in
+    let h : placeOf (a .x) (items (a .q)) < length (items (a .q)) =
+    omega (arith, c .if1 .left, c .before .size .ensures, c .before .before .place-of .ensures) in
     let e : has (a .x) (items (a .q)) ≡ true = sym (has-place (a .x) (items (a .q))) ∙ lt-ltb _ _ h in
     rw e (c .before .before .place-of .ensures)
 

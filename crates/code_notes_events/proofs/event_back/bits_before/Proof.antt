@@ -20,14 +20,26 @@ without-bit-requires c κs = search needs
 
 returns-2 : tie.Need-returns-2
 unfolding bitsBefore
-returns-2 c = rw (← c .before .before .before .before .byte-at .ensures, eq-eqb _ _ (c .before .before .before .if1 .left), ← c .before .before .bit .ensures, c .before .if2 .taken) (c .without-bit .ensures)
+returns-2 c =
+    rw (
+      ← c .before .before .before .before .byte-at .ensures,
+      eq-eqb _ _ (c .before .before .before .if1 .left),
+      ← c .before .before .bit .ensures,
+      c .before .if2 .taken,
+    ) (c .without-bit .ensures)
 
 with-bit-requires : tie.Need-with-bit-requires
 with-bit-requires c κs = search needs
 
 returns-3 : tie.Need-returns-3
 unfolding bitsBefore
-returns-3 c = rw (← c .before .before .before .before .byte-at .ensures, eq-eqb _ _ (c .before .before .before .if1 .left), ← c .before .before .bit .ensures, c .before .if2 .left) (c .with-bit .ensures)
+returns-3 c =
+    rw (
+      ← c .before .before .before .before .byte-at .ensures,
+      eq-eqb _ _ (c .before .before .before .if1 .left),
+      ← c .before .before .bit .ensures,
+      c .before .if2 .left,
+    ) (c .with-bit .ensures)
 
 pub bits-before-spec : {M : Type 1} → statement M
 bits-before-spec =

@@ -33,7 +33,11 @@ returns c =
     let f = event-fits (a .r) (search needs) (search needs) in
     c .from-row .ensures
     ∙ ap eventFrom
-    (rw (c .before .before .row-at .ensures, c .before .before .before .before .row-of .ensures, c .before .before .before .before .before .byte-at .ensures)
+    (rw (
+      c .before .before .row-at .ensures,
+      c .before .before .before .before .row-of .ensures,
+      c .before .before .before .before .before .byte-at .ensures,
+    )
     (read-fits eventWidths _ _ _ cut-event (drop-bytes (a .at + 1) s b) f))
 
 pub record-at-spec : {M : Type 1} → statement M

@@ -19,7 +19,9 @@ same-length : tie.Need-same-length
 same-length c = search needs
 
 returns-2 : tie.Need-returns-2
-returns-2 c = rw (sym (c .before .before .before .before .before .same .ensures) ∙ c .before .before .before .before .if1 .left) (c .before .before .put-event .ensures)
+returns-2 c =
+    rw (sym (c .before .before .before .before .before .same .ensures) ∙ c .before .before .before .before .if1 .left)
+    (c .before .before .put-event .ensures)
 
 pub put-changed-event-spec : {M : Type 1} → statement M
 put-changed-event-spec =

@@ -21,7 +21,13 @@ same-length c = search needs
 
 returns : tie.Need-returns
 unfolding puts
-returns c = rw (c .before .before .put-fields .ensures, c .before .before .before .before .before .before .before .before .put-byte .ensures, c .before .before .before .before .before .before .before .before .before .before .row-of2 .ensures, c .before .before .before .before .before .before .before .before .before .before .before .row-of .ensures)
+returns c =
+    rw (
+      c .before .before .put-fields .ensures,
+      c .before .before .before .before .before .before .before .before .put-byte .ensures,
+      c .before .before .before .before .before .before .before .before .before .before .row-of2 .ensures,
+      c .before .before .before .before .before .before .before .before .before .before .before .row-of .ensures,
+    )
 
 pub put-event-spec : {M : Type 1} → statement M
 put-event-spec =

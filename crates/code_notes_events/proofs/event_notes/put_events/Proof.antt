@@ -33,7 +33,8 @@ unfolding puts
 returns c =
     let l = c .before .before .loop in
     let a = c .before .before .before .before .args in
-    sym (l .inv .3 ∙ rw (entries-none _ _ (l .i) (l .left) (past-both (λ x y. not (sameEvent x y)) (a .t3) (a .t4) noEvent (l .inv .0) (l .inv .1) no-event (c .if1 .taken))))
+    sym (l .inv .3 ∙ rw (entries-none _ _ (l .i) (l .left) (past-both (λ x y. not (sameEvent x y)) (a .t3) (a .t4) noEvent (l .inv .0)
+    (l .inv .1) no-event (c .if1 .taken))))
 
 cast-j : tie.Need-cast-j Inv-loop μ-loop
 cast-j c = search needs

@@ -6,7 +6,8 @@ use lib.ListN.{length, set, length-set}
 use lib.Seq.{set-out}
 use Rattle.spec_notes.specs.Rows.{messageFrom, messageWidths}
 use Rattle.spec_notes.specs.Back.{messagesBefore}
-use Rattle.code_notes_entries.proofs.EntryTurns.{flaggedFrom, entries-end, used-short, goes-on, sum-message, messageDoes, messages-turns, message-turn, at-least}
+use Rattle.code_notes_entries.proofs.EntryTurns.{flaggedFrom, entries-end, used-short, goes-on}
+use Rattle.code_notes_entries.proofs.EntryTurns.{sum-message, messageDoes, messages-turns, message-turn, at-least}
 use borrow.Author.Needs.{needs}
 use Rattle.code_notes_messages.proofs.message_back.messages_before.Statement.{statement}
 use Rattle.code_notes_messages.proofs.message_back.messages_before.Tie as tie
@@ -14,7 +15,8 @@ use Rattle.code_notes_messages.proofs.message_back.messages_before.Tie 
 abbrev Inv-loop : tie.InvT-loop
 Inv-loop c runner new s messages₀ out₀ places₀ p₀ messages out places p =
     (length messages ≡ 64) × (length out ≡ 64) × (length places ≡ 64)
-    × (messagesBefore c runner new s ≡ flaggedFrom messageWidths (messageDoes c runner new) s p (record { messages = messages; out = out; at = places }))
+    × (messagesBefore c runner new s ≡ flaggedFrom messageWidths (messageDoes c runner new) s p
+    (record { messages = messages; out = out; at = places }))
 
 abbrev μ-loop : tie.MeasureT-loop
 μ-loop c runner new s messages₀ out₀ places₀ p₀ messages out places p = length s - p
@@ -40,7 +42,8 @@ used-by-requires : tie.Need-used-by-requires Inv-loop μ-loop
 used-by-requires c κs = search needs
 
 add-p-2 : tie.Need-add-p-2 Inv-loop μ-loop
-add-p-2 c = record { fits = omega (arith, c .used-by .ensures, used-short messageWidths (c .before .byte-at .result), sum-message, c .before .before .before .loop-test .taken) }
+add-p-2 c =
+    record { fits = omega (arith, c .used-by .ensures, used-short messageWidths (c .before .byte-at .result), sum-message, c .before .before .before .loop-test .taken) }
 
 message-at-requires : tie.Need-message-at-requires Inv-loop μ-loop
 message-at-requires c κs = search needs
@@ -49,7 +52,8 @@ row-before-requires : tie.Need-row-before-requires Inv-loop μ-loop
 row-before-requires c κs = search needs
 
 cast-store : tie.Need-cast-store Inv-loop μ-loop
-cast-store c = record { fits = omega (arith, c .before .before .before .before .before .before .shared-slice-known2 .given (c .before .before .before .before .before .before .before .before .loop .p)) }
+cast-store c =
+    record { fits = omega (arith, c .before .before .before .before .before .before .shared-slice-known2 .given (c .before .before .before .before .before .before .before .before .loop .p)) }
 
 store-requires : tie.Need-store-requires Inv-loop μ-loop
 store-requires c κs = c .before .before .before .before .before .before .before .before .loop .inv .1
@@ -70,28 +74,38 @@ mul-messages : tie.Need-mul-messages Inv-loop μ-loop
 mul-messages c = search needs
 
 array-set-from-messages : tie.Need-array-set-from-messages Inv-loop μ-loop
-array-set-from-messages c = omega (arith, c .before .before .before .before .before .before .before .before .before .before .before .before .before .loop .inv .0)
+array-set-from-messages c =
+    omega (arith, c .before .before .before .before .before .before .before .before .before .before .before .before .before .loop .inv .0)
 
 loop-less : tie.Need-loop-less Inv-loop μ-loop
-loop-less c = goes-on _ (c .before .before .before .before .before .before .before .before .before .before .before .before .before .loop .p) _ (c .before .before .before .before .before .before .before .before .before .before .before .before .loop-test .taken)
+loop-less c =
+    goes-on _ (c .before .before .before .before .before .before .before .before .before .before .before .before .before .loop .p) _
+    (c .before .before .before .before .before .before .before .before .before .before .before .before .loop-test .taken)
 
 loop-again : tie.Need-loop-again Inv-loop μ-loop
 loop-again c =
     let l = c .before .before .before .before .before .before .before .before .before .before .before .before .before .loop in
-    let a = c .before .before .before .before .before .before .before .before .before .before .before .before .before .before .before .args in
+    let a =
+    c .before .before .before .before .before .before .before .before .before .before .before .before .before .before .before .args in
     let row = c .before .before .before .before .before .before .before .row-before in (
       simp length-set (l .inv .0),
       rw (c .before .before .before .before .store .ensures, length-set) (l .inv .1),
       rw (c .before .before .store2 .ensures, length-set) (l .inv .2),
       l .inv .3
-          ∙ message-turn (a .s .now) (l .p) _ _ (c .before .before .before .before .before .before .before .before .before .before .before .before .loop-test .taken) (c .before .before .before .before .before .before .before .before .before .before .byte-at .ensures) (a .c) (a .runner) (a .new) _ _ (l .messages) _ (l .out) _ (l .places) _
-          (c .before .before .before .before .before .before .before .before .before .used-by .ensures) (c .before .before .before .before .before .before .before .before .message-at .ensures) (row .ensures .0)
+          ∙ message-turn (a .s .now) (l .p) _ _
+          (c .before .before .before .before .before .before .before .before .before .before .before .before .loop-test .taken)
+          (c .before .before .before .before .before .before .before .before .before .before .byte-at .ensures) (a .c) (a .runner)
+          (a .new) _ _ (l .messages) _ (l .out) _ (l .places) _
+          (c .before .before .before .before .before .before .before .before .before .used-by .ensures)
+          (c .before .before .before .before .before .before .before .before .message-at .ensures) (row .ensures .0)
           (ap (set (l .messages) _) (c .from-row .ensures ∙ ap messageFrom (row .ensures .1)))
           (c .before .before .before .before .store .ensures) (c .before .before .store2 .ensures),
     )
 
 loop-less-2 : tie.Need-loop-less-2 Inv-loop μ-loop
-loop-less-2 c = goes-on _ (c .before .before .before .before .before .before .before .before .before .before .before .before .loop .p) _ (c .before .before .before .before .before .before .before .before .before .before .before .loop-test .taken)
+loop-less-2 c =
+    goes-on _ (c .before .before .before .before .before .before .before .before .before .before .before .before .loop .p) _
+    (c .before .before .before .before .before .before .before .before .before .before .before .loop-test .taken)
 
 loop-again-2 : tie.Need-loop-again-2 Inv-loop μ-loop
 loop-again-2 c =
@@ -102,8 +116,12 @@ loop-again-2 c =
       rw (c .before .before .before .store .ensures, length-set) (l .inv .1),
       rw (c .before .store2 .ensures, length-set) (l .inv .2),
       l .inv .3
-          ∙ message-turn (a .s .now) (l .p) _ _ (c .before .before .before .before .before .before .before .before .before .before .before .loop-test .taken) (c .before .before .before .before .before .before .before .before .before .byte-at .ensures) (a .c) (a .runner) (a .new) _ _ (l .messages) _ (l .out) _ (l .places) _
-          (c .before .before .before .before .before .before .before .before .used-by .ensures) (c .before .before .before .before .before .before .before .message-at .ensures) (row .ensures .0)
+          ∙ message-turn (a .s .now) (l .p) _ _
+          (c .before .before .before .before .before .before .before .before .before .before .before .loop-test .taken)
+          (c .before .before .before .before .before .before .before .before .before .byte-at .ensures) (a .c) (a .runner) (a .new) _ _
+          (l .messages) _ (l .out) _ (l .places) _
+          (c .before .before .before .before .before .before .before .before .used-by .ensures)
+          (c .before .before .before .before .before .before .before .message-at .ensures) (row .ensures .0)
           (sym (set-out (l .messages) _ _ (at-least _ _ (l .inv .0) (c .if1 .left))))
           (c .before .before .before .store .ensures) (c .before .store2 .ensures),
     )

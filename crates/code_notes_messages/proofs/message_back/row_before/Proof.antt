@@ -30,8 +30,11 @@ returns c =
     let a = c .before .before .before .before .before .args in
     let s : List ℕ = a .s .now in
     let b : Bytes s = λ i. omega (arith, c .before .before .before .before .shared-slice-known .given i) in
-    let f = message-fits (a .c) (a .runner) (a .r) (search needs) (search needs) (search needs) (search needs) (search needs) (search needs) (search needs) in
-    let e : c .row-at .result .fields ≡ rowFrom messageWidths (getD s (a .at) 0) (predictedMessage (a .c) (a .runner) (a .r)) (drop (a .at + 1) s) =
+    let f =
+    message-fits (a .c) (a .runner) (a .r) (search needs) (search needs) (search needs) (search needs) (search needs) (search needs)
+    (search needs) in
+    let e : c .row-at .result .fields
+    ≡ rowFrom messageWidths (getD s (a .at) 0) (predictedMessage (a .c) (a .runner) (a .r)) (drop (a .at + 1) s) =
     rw (c .row-at .ensures, c .before .before .predicted .ensures, c .before .before .before .byte-at .ensures) (rw cut-message) in
     (e, rw e (row-whole messageWidths _ _ (drop (a .at + 1) s) (drop-bytes (a .at + 1) s b) f))
 

@@ -22,7 +22,11 @@ same-length : tie.Need-same-length
 same-length c = search needs
 
 returns-2 : tie.Need-returns-2
-returns-2 c = rw (sym (c .before .before .before .before .before .before .same .ensures) ∙ c .before .before .before .before .before .if1 .left, ← c .before .before .before .old-place .ensures) (c .before .before .put-message .ensures)
+returns-2 c =
+    rw (
+      sym (c .before .before .before .before .before .before .same .ensures) ∙ c .before .before .before .before .before .if1 .left,
+      ← c .before .before .before .old-place .ensures,
+    ) (c .before .before .put-message .ensures)
 
 pub put-changed-message-spec : {M : Type 1} → statement M
 put-changed-message-spec =

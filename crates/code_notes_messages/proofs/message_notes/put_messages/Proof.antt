@@ -17,7 +17,8 @@ use Rattle.code_notes_messages.proofs.message_notes.put_messages.Tie as
 abbrev Inv-loop : tie.InvT-loop
 Inv-loop log₀ at c runner first count new records posted p₀ i₀ left₀ log p i left =
     (length records ≡ 64) × (length new ≡ 64) × (length log ≡ length log₀)
-    × (puts (pen log₀ at) (messageEntries c runner (record { records = records; posted = posted }) new first count) ≡ puts (pen log p) (messageEntries c runner (record { records = records; posted = posted }) new i left))
+    × (puts (pen log₀ at) (messageEntries c runner (record { records = records; posted = posted }) new first count) ≡ puts (pen log p)
+    (messageEntries c runner (record { records = records; posted = posted }) new i left))
 
 abbrev μ-loop : tie.MeasureT-loop
 μ-loop log₀ at c runner first count new records posted p₀ i₀ left₀ log p i left = left
@@ -36,7 +37,8 @@ unfolding puts
 returns c =
     let l = c .before .before .loop in
     let a = c .before .before .before .before .before .before .args in
-    sym (l .inv .3 ∙ rw (entries-none _ _ (l .i) (l .left) (past-both (λ x y. not (sameMessage x y)) (a .old .records) (a .t6) noMessage (l .inv .0) (l .inv .1) no-message (c .if1 .taken))))
+    sym (l .inv .3 ∙ rw (entries-none _ _ (l .i) (l .left) (past-both (λ x y. not (sameMessage x y)) (a .old .records) (a .t6) noMessage
+    (l .inv .0) (l .inv .1) no-message (c .if1 .taken))))
 
 cast-j : tie.Need-cast-j Inv-loop μ-loop
 cast-j c = search needs

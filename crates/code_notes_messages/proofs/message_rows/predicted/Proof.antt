@@ -29,7 +29,13 @@ either-requires c κs = search needs
 
 returns-2 : tie.Need-returns-2
 unfolding predictedMessage
-returns-2 c = rw (ne-eqb _ 24 (c .before .before .before .before .before .if1 .left), c .before .before .before .before .owner-before .ensures, c .before .before .before .sender-before .ensures, c .either .ensures)
+returns-2 c =
+    rw (
+      ne-eqb _ 24 (c .before .before .before .before .before .if1 .left),
+      c .before .before .before .before .owner-before .ensures,
+      c .before .before .before .sender-before .ensures,
+      c .either .ensures,
+    )
 
 pub predicted-spec : {M : Type 1} → statement M
 predicted-spec =

@@ -19,7 +19,13 @@ same-length : tie.Need-same-length
 same-length c = search needs
 
 returns : tie.Need-returns
-returns c = rw (c .before .before .put-unless-predicted .ensures, c .before .before .before .before .before .before .predicted .ensures, c .before .before .before .before .before .before .before .row-of .ensures, c .before .before .before .before .before .before .before .before .held-runner .ensures)
+returns c =
+    rw (
+      c .before .before .put-unless-predicted .ensures,
+      c .before .before .before .before .before .before .predicted .ensures,
+      c .before .before .before .before .before .before .before .row-of .ensures,
+      c .before .before .before .before .before .before .before .before .held-runner .ensures,
+    )
 
 pub put-scheduler-spec : {M : Type 1} → statement M
 put-scheduler-spec =

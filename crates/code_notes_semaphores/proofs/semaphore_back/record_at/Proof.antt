@@ -33,7 +33,11 @@ returns c =
     let f = semaphore-fits (a .c) (a .r) (search needs) (search needs) (search needs) (search needs) in
     c .from-row .ensures
     ∙ ap semaphoreFrom
-    (rw (c .before .before .row-at .ensures, c .before .before .before .before .predicted .ensures, c .before .before .before .before .before .byte-at .ensures)
+    (rw (
+      c .before .before .row-at .ensures,
+      c .before .before .before .before .predicted .ensures,
+      c .before .before .before .before .before .byte-at .ensures,
+    )
     (read-fits semaphoreWidths _ _ _ cut-semaphore (drop-bytes (a .at + 1) s b) f))
 
 pub record-at-spec : {M : Type 1} → statement M

@@ -45,8 +45,12 @@ loop-less c = search needs
 loop-again : tie.Need-loop-again Inv-loop μ-loop
 loop-again c =
     let a = c .before .before .before .before .args in
-    let l = c .before .before .before .loop in
-    (omega arith, l .inv .1, simp length-set (omega arith), rw (c .younger .ensures, l .inv .3) (map-next (youngerSemaphore (a .c)) noSemaphore (a .t2) (l .i) (omega arith)))
+    let l = c .before .before .before .loop in (
+      omega arith,
+      l .inv .1,
+      simp length-set (omega arith),
+      rw (c .younger .ensures, l .inv .3) (map-next (youngerSemaphore (a .c)) noSemaphore (a .t2) (l .i) (omega arith)),
+    )
 
 returns : tie.Need-returns Inv-loop μ-loop
 returns c =

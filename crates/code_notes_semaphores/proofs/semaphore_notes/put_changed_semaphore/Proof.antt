@@ -22,7 +22,13 @@ same-length : tie.Need-same-length
 same-length c = search needs
 
 returns-2 : tie.Need-returns-2
-returns-2 c = rw (← c .before .before .before .before .before .before .younger .ensures, sym (c .before .before .before .before .before .same .ensures) ∙ c .before .before .before .before .if1 .left) (c .before .before .put-semaphore .ensures)
+returns-2 c =
+    rw (
+      ← c .before .before .before .before .before .before .younger .ensures,
+      sym
+          (c .before .before .before .before .before .same .ensures) ∙ c .before .before .before .before .if1 .left,
+    )
+    (c .before .before .put-semaphore .ensures)
 
 pub put-changed-semaphore-spec : {M : Type 1} → statement M
 put-changed-semaphore-spec =

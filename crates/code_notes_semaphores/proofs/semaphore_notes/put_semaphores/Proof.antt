@@ -32,7 +32,8 @@ unfolding puts
 returns c =
     let l = c .before .before .loop in
     let a = c .before .before .before .before .args in
-    sym (l .inv .3 ∙ rw (entries-none _ _ (l .i) (l .left) (past-both (changedSemaphore (c .before .before .before .before .args .c)) (a .t4) (a .t5) noSemaphore (l .inv .0) (l .inv .1) (no-semaphore (c .before .before .before .before .args .c)) (c .if1 .taken))))
+    sym (l .inv .3 ∙ rw (entries-none _ _ (l .i) (l .left) (past-both (changedSemaphore (c .before .before .before .before .args .c))
+    (a .t4) (a .t5) noSemaphore (l .inv .0) (l .inv .1) (no-semaphore (c .before .before .before .before .args .c)) (c .if1 .taken))))
 
 cast-j : tie.Need-cast-j Inv-loop μ-loop
 cast-j c = search needs

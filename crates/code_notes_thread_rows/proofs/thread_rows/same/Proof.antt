@@ -31,7 +31,8 @@ returns-2 : tie.Need-returns-2
 returns-2 c = let a = c .before .before .before .before .before .before .args in other (a .r) (a .s) 0 (c .if2 .taken)
 
 returns-3 : tie.Need-returns-3
-returns-3 c = let a = c .before .before .before .before .before .before .before .before .before .args in other (a .r) (a .s) 1 (c .if3 .taken)
+returns-3 c =
+    let a = c .before .before .before .before .before .before .before .before .before .args in other (a .r) (a .s) 1 (c .if3 .taken)
 
 data-of-requires : tie.Need-data-of-requires
 data-of-requires c κs = search needs
@@ -40,10 +41,15 @@ data-of-requires-2 : tie.Need-data-of-requires-2
 data-of-requires-2 c κs = search needs
 
 returns-4 : tie.Need-returns-4
-returns-4 c = let a = c .before .before .before .before .before .before .before .before .before .before .before .before .args in other (a .r) (a .s) 2 (λ e. c .if4 .taken (c .before .before .data-of .ensures ∙ e ∙ sym (c .before .data-of2 .ensures)))
+returns-4 c =
+    let a =
+    c .before .before .before .before .before .before .before .before .before .before .before .before .args in other (a .r) (a .s) 2
+    (λ e. c .if4 .taken (c .before .before .data-of .ensures ∙ e ∙ sym (c .before .data-of2 .ensures)))
 
 returns-5 : tie.Need-returns-5
-returns-5 c = let a = c .before .before .before .before .before .before .before .before .before .before .before .before .before .before .before .args in other (a .r) (a .s) 3 (c .if5 .taken)
+returns-5 c =
+    let a =
+    c .before .before .before .before .before .before .before .before .before .before .before .before .before .before .before .args in other (a .r) (a .s) 3 (c .if5 .taken)
 
 wake-code-requires : tie.Need-wake-code-requires
 wake-code-requires c κs = search needs
@@ -52,7 +58,9 @@ wake-code-requires-2 : tie.Need-wake-code-requires-2
 wake-code-requires-2 c κs = search needs
 
 returns-6 : tie.Need-returns-6
-returns-6 c = let a = c .before .before .before .before .before .before .before .before .before .before .before .before .before .before .before .before .before .before .args in other (a .r) (a .s) 4 (λ e. c .if6 .taken (c .before .before .wake-code .ensures ∙ e ∙ sym (c .before .wake-code2 .ensures)))
+returns-6 c =
+    let a =
+    c .before .before .before .before .before .before .before .before .before .before .before .before .before .before .before .before .before .before .args in other (a .r) (a .s) 4 (λ e. c .if6 .taken (c .before .before .wake-code .ensures ∙ e ∙ sym (c .before .wake-code2 .ensures)))
 
 returns-7 : tie.Need-returns-7
 unfolding sameThread

@@ -1,4 +1,5 @@
--- `code_notes_threads::thread_back::all_younger` meets its contract: the records before i are younger, and what is still to come are the others.
+-- `code_notes_threads::thread_back::all_younger` meets its contract: the records before i are younger, and what is still to come are the
+-- others.
 use Prim.Native.Nat.{_+_, _-_, _≤_}
 use mathlib.Core.Path.{_≡_, _∙_}
 use mathlib.Core.List.{_++_, map}
@@ -47,8 +48,12 @@ loop-again : tie.Need-loop-again Inv-loop μ-loop
 loop-again c =
     let a = c .before .before .before .before .args in
     let l = c .before .before .before .loop in
-    let n = map-next (youngerThread (a .c)) noThread (a .t2) (l .i) (omega arith) in
-    (omega arith, l .inv .1, simp length-set (l .inv .2), l .inv .3 ∙ rw (n, c .younger .ensures) (filled-next (l .old) (l .i) _ _ (omega arith)))
+    let n = map-next (youngerThread (a .c)) noThread (a .t2) (l .i) (omega arith) in (
+      omega arith,
+      l .inv .1,
+      simp length-set (l .inv .2),
+      l .inv .3 ∙ rw (n, c .younger .ensures) (filled-next (l .old) (l .i) _ _ (omega arith)),
+    )
 
 returns : tie.Need-returns Inv-loop μ-loop
 returns c =

@@ -56,10 +56,12 @@ returns c =
     let o = g .thread-at .ok .1 .1 .1 in
     let h : Bytes (a .s .now) = λ i. omega (arith, k .shared-slice-known .given i) in
     let what = data-typed (g .thread-at .result .condition) _ (o .1 .1 .0) in
-    let z : Typed (g .thread-at .result) = (omega (arith, o .0), omega (arith, o .1 .0), what, omega (arith, o .1 .1 .1 .0), omega (arith, o .1 .1 .1 .1 .1 .0)) in
+    let z : Typed (g .thread-at .result) =
+    (omega (arith, o .0), omega (arith, o .1 .0), what, omega (arith, o .1 .1 .1 .0), omega (arith, o .1 .1 .1 .1 .1 .0)) in
     let x : a .c .a < 256 = omega (arith, k .before) in
     let flags = c .before .before .before .before .byte-at3 .result in
-    let f = row-fitted (a .c) (g .thread-at .result) (g .before .byte-at2 .result) flags (drop 3 (a .s .now)) x z (drop-bytes 3 (a .s .now) h) in
+    let f =
+    row-fitted (a .c) (g .thread-at .result) (g .before .byte-at2 .result) flags (drop 3 (a .s .now)) x z (drop-bytes 3 (a .s .now) h) in
     rw (
       c .put-record .ensures,
       c .before .from-row .ensures,

@@ -28,7 +28,8 @@ least-requires : tie.Need-least-requires
 least-requires c κs = search needs
 
 returns : tie.Need-returns
-returns c = rw (c .least .ensures, c .before .used-by .ensures, c .before .before .before .widths .ensures, c .before .before .byte-at .ensures)
+returns c =
+    rw (c .least .ensures, c .before .used-by .ensures, c .before .before .before .widths .ensures, c .before .before .byte-at .ensures)
 
 pub entry-size-spec : {M : Type 1} → statement M
 entry-size-spec =

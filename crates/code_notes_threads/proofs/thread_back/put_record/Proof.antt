@@ -33,7 +33,13 @@ returns-2 c =
     let a = d .args in
     let e : length (a .a .threads) ≡ 32 = sym (length-map (a .a .threads) _) ∙ d .good .0 .1 .1 .0 .1 .0 .1 in
     let h : length (a .a .threads) ≤ a .t = omega arith in
-    rw (c .before .marked3 .ensures, c .before .before .marked2 .ensures, c .before .before .before .marked .ensures, set-out (a .a .threads) (a .t) (a .r) h)
+    rw (
+      c .before .marked3 .ensures,
+      c .before .before .marked2 .ensures,
+      c .before .before .before .marked .ensures,
+      set-out
+          (a .a .threads) (a .t) (a .r) h,
+    )
 
 pub put-record-spec : {M : Type 1} → statement M
 put-record-spec =

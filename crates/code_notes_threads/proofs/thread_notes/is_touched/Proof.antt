@@ -23,7 +23,8 @@ moves-in-place-requires : tie.Need-moves-in-place-requires
 moves-in-place-requires c κs = search needs
 
 returns-2 : tie.Need-returns-2
-returns-2 c = rw (sym (told (c .before .before)) ∙ not-false (c .before .before .same .result) (c .before .if1 .left)) (c .moves-in-place .ensures)
+returns-2 c =
+    rw (sym (told (c .before .before)) ∙ not-false (c .before .before .same .result) (c .before .if1 .left)) (c .moves-in-place .ensures)
 
 pub is-touched-spec : {M : Type 1} → statement M
 is-touched-spec =

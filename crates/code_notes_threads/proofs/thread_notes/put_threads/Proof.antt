@@ -1,4 +1,5 @@
--- `code_notes_threads::thread_notes::put_threads` meets its contract: what is still to write are the entries of the ids that are left. Where the arms meet, `before` and `after` are the records of the id; past the last they are no thread's.
+-- `code_notes_threads::thread_notes::put_threads` meets its contract: what is still to write are the entries of the ids that are left.
+-- Where the arms meet, `before` and `after` are the records of the id; past the last they are no thread's.
 use Prim.Native.Nat.{_+_, _<_}
 use mathlib.Core.Path.{_≡_, sym, _∙_}
 use mathlib.Core.Logic.{⊎-elim}

@@ -33,7 +33,8 @@ key-of-requires c κs = search needs
 returns : tie.Need-returns Inv-loop μ-loop
 returns c =
     let l = c .before .before .before .loop in
-    climb-stops _ (c .before .before .before .before .before .before .args .q) _ (c .before .before .before .before .size .ensures) (l .low) (l .i) (l .inv) _ (c .before .key-of .ensures) (omega arith) (omega arith)
+    climb-stops _ (c .before .before .before .before .before .before .args .q) _ (c .before .before .before .before .size .ensures)
+    (l .low) (l .i) (l .inv) _ (c .before .key-of .ensures) (omega arith) (omega arith)
 
 add-i : tie.Need-add-i Inv-loop μ-loop
 add-i c = search needs
@@ -44,7 +45,8 @@ loop-less c = search needs
 loop-again : tie.Need-loop-again Inv-loop μ-loop
 loop-again c =
     let l = c .before .before .before .loop in
-    climb-goes _ (c .before .before .before .before .before .before .args .q) _ (c .before .before .before .before .size .ensures) (l .low) (l .i) (l .inv) _ (c .before .key-of .ensures) (omega arith) (omega arith)
+    climb-goes _ (c .before .before .before .before .before .before .args .q) _ (c .before .before .before .before .size .ensures) (l .low)
+    (l .i) (l .inv) _ (c .before .key-of .ensures) (omega arith) (omega arith)
 
 returns-2 : tie.Need-returns-2 Inv-loop μ-loop
 returns-2 c =

@@ -1,4 +1,5 @@
--- `code_rules::tables::places_stand` meets its contract: each of the t threads passed stands there as often as it has a home, so the rest decides.
+-- `code_rules::tables::places_stand` meets its contract: each of the t threads passed stands there as often as it has a home, so the rest
+-- decides.
 use Prim.Native.Nat.{_-_}
 use mathlib.Core.Path.{_≡_}
 use native.Mathlib.Omega.{arith}

@@ -1,4 +1,5 @@
--- `code_rules::tables::posts_stand` meets its contract: each of the m messages passed stands there as often as it is queued, so the rest decides.
+-- `code_rules::tables::posts_stand` meets its contract: each of the m messages passed stands there as often as it is queued, so the rest
+-- decides.
 use Prim.Native.Nat.{_-_}
 use mathlib.Core.Path.{_≡_}
 use native.Mathlib.Omega.{arith}

@@ -1,4 +1,5 @@
--- `code_rules::tables::time_stands` meets its contract: each of the t threads passed stands there as often as it has ticks left, so the rest decides.
+-- `code_rules::tables::time_stands` meets its contract: each of the t threads passed stands there as often as it has ticks left, so the
+-- rest decides.
 use Prim.Native.Nat.{_-_}
 use mathlib.Core.Path.{_≡_, refl}
 use native.Mathlib.Omega.{arith}

@@ -42,7 +42,8 @@ returns c k =
     let p = s .args .w .threads in
     let f = c .before .before .before .before .first-at-home .ensures in
     let e : length (p .records) ≡ 32 = sym (length-map (p .records) _) ∙ s .good .0 .1 .1 .0 .1 .1 .0 .1 .0 .1 in
-    let z : semaphoreQueue (withWaiting (s .args .w) k) (s .args .i) ≡ [] = empty _ (sym (first-empty (p .records) e (p .places) (omega arith)) ∙ eq-eqb _ _ (sym f ∙ c .before .before .before .if1 .taken)) in
+    let z : semaphoreQueue (withWaiting (s .args .w) k) (s .args .i) ≡ [] =
+    empty _ (sym (first-empty (p .records) e (p .places) (omega arith)) ∙ eq-eqb _ _ (sym f ∙ c .before .before .before .if1 .taken)) in
     rw (z, c .stored .ensures, c .before .raised .ensures, c .before .before .semaphore-at .ensures)
 
 woken-requires : tie.Need-woken-requires

@@ -20,7 +20,8 @@ returns : tie.Need-returns
 unfolding postSemaphore
 returns c =
     let a = c .before .before .before .args in
-    c .with-waiting .ensures ∙ c .before .post .ensures (a .k) ∙ ap (λ (w : Waiting). post (a .c .a) (withWaiting w (a .k))) (c .before .before .waiting-of .ensures)
+    c .with-waiting .ensures ∙ c .before .post .ensures (a .k)
+    ∙ ap (λ (w : Waiting). post (a .c .a) (withWaiting w (a .k))) (c .before .before .waiting-of .ensures)
 
 pub post-semaphore-spec : {M : Type 1} → statement M
 post-semaphore-spec =

@@ -39,7 +39,8 @@ part-log-end-2 c =
     let a = c .before .before .before .before .before .before .args in
     let w = c .before .before .before .called in
     let e : w .result .used ≡ calledWith (a .k) (a .bytes) (a .log .now) (a .used) .used = ap (λ (x : Logged). x .used) (w .ensures .0) in
-    let h : w .result .used ≤ length (a .log .now) = rw e (part-moved (a .k) (a .bytes) (a .log .now) (a .used) (rw (← e) (c .if1 .left))) in
+    let h : w .result .used ≤ length (a .log .now) =
+    rw e (part-moved (a .k) (a .bytes) (a .log .now) (a .used) (rw (← e) (c .if1 .left))) in
     omega (arith, w .kept .1 .1 .0)
 
 returns-2 : tie.Need-returns-2

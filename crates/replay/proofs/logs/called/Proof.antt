@@ -17,7 +17,8 @@ returns : tie.Need-returns
 unfolding calledWith logCalled
 returns c =
     let t = c .before .before .keeps-rules in
-    let broken : keepsRules (c .before .before .before .before .args .k) ≡ false = sym (t .ensures) ∙ not-true (t .result) (c .before .if1 .taken) in
+    let broken : keepsRules (c .before .before .before .before .args .k) ≡ false =
+    sym (t .ensures) ∙ not-true (t .result) (c .before .if1 .taken) in
     (rw broken (c .refused .ensures), rw broken)
 
 recorded-requires : tie.Need-recorded-requires

@@ -34,7 +34,9 @@ returns-2 : tie.Need-returns-2
 unfolding undone undoes
 returns-2 c =
     let a = c .before .before .before .before .before .before .args in
-    let r : keepsRules (a .k) ≡ true = sym (c .before .before .before .before .keeps-rules .ensures) ∙ not-false (c .before .before .before .before .keeps-rules .result) (c .before .before .before .if1 .left) in
+    let r : keepsRules (a .k) ≡ true =
+    sym (c .before .before .before .before .keeps-rules .ensures)
+    ∙ not-false (c .before .before .before .before .keeps-rules .result) (c .before .before .before .if1 .left) in
     let t = c .before .before .has-last in
     let none : hasLast (a .log .now) (a .used) ≡ false = sym (t .ensures) ∙ not-true (t .result) (c .before .if2 .taken) in
     rw (r, none) (c .refused2 .ensures)
@@ -68,7 +70,10 @@ undo-note-requires c κs = search needs
 returns-3 : tie.Need-returns-3
 returns-3 c =
     let a = c .before .before .before .before .before .before .before .before .args in
-    let r : keepsRules (a .k) ≡ true = sym (c .before .before .before .before .before .before .keeps-rules .ensures) ∙ not-false (c .before .before .before .before .before .before .keeps-rules .result) (c .before .before .before .before .before .if1 .left) in
+    let r : keepsRules (a .k) ≡ true =
+    sym (c .before .before .before .before .before .before .keeps-rules .ensures)
+    ∙ not-false (c .before .before .before .before .before .before .keeps-rules .result)
+    (c .before .before .before .before .before .if1 .left) in
     let t = c .before .before .before .before .has-last in
     let has : hasLast (a .log .now) (a .used) ≡ true = sym (t .ensures) ∙ not-false (t .result) (c .before .before .before .if2 .left) in
     c .undo-note .ensures ∙ undone-part (a .log .now) (a .used) has (a .k) _ r (c .before .before .last-length .ensures)

@@ -36,7 +36,8 @@ returns : tie.Need-returns
 returns c =
     let a = c .before .before .before .before .before .args in
     let note = a .note .now in
-    let e : framesOf note ≡ nothing = sym (c .before .before .before .frames-of .ensures) ∙ ap (λ (d : Decoded). meant d note) (c .before .enum-told .given .1) in
+    let e : framesOf note ≡ nothing =
+    sym (c .before .before .before .frames-of .ensures) ∙ ap (λ (d : Decoded). meant d note) (c .before .enum-told .given .1) in
     rw (note-none (a .k) note e) (c .refused .ensures)
 
 call-bytes-requires : tie.Need-call-bytes-requires
@@ -75,16 +76,21 @@ state-read : (c : tie.After-state-before) → let k = old (c .before .before .be
 state-read c =
     let f = c .before .before .before .before in
     back-parts (callOf (callBytes (note₀ f))) (k₀ f) (parts f) (c .state-before .result)
-    (c .state-before .ensures ∙ ap (λ (y : Call). backOf y (k₀ f) (parts f)) (c .before .call-of .ensures ∙ ap callOf (record-read (c .before .before))))
+    (c .state-before .ensures
+    ∙ ap (λ (y : Call). backOf y (k₀ f) (parts f)) (c .before .call-of .ensures ∙ ap callOf (record-read (c .before .before))))
 
 -- and what running the call again finds
 run-again : (c : tie.After-yields-again) → let f = c .before .before .before .before .before .before .before .before in
-    (c .before .before .before .before .state-before .result .kernel ≡ old f) × (c .yields-again .result ≡ yieldsAgain (old f) (callBytes (note₀ f)) (k₀ f) (note₀ f))
+    (c .before .before .before .before .state-before .result .kernel ≡ old f)
+    × (c .yields-again .result ≡ yieldsAgain (old f) (callBytes (note₀ f)) (k₀ f) (note₀ f))
 run-again c =
     let f = c .before .before .before .before .before .before .before .before in
     let (fits, kernel) = state-read (c .before .before .before .before) in
-    let l = sym fits ∙ not-false (c .before .before .before .before .state-before .result .fits) (c .before .before .if1 .left) in
-    (kernel l, c .yields-again .ensures (ap levelsFit (kernel l) ∙ l) ∙ rw (kernel l, record-read (c .before .before .before .before .before .before)))
+    let l = sym fits ∙ not-false (c .before .before .before .before .state-before .result .fits) (c .before .before .if1 .left) in (
+      kernel l,
+      c .yields-again .ensures (ap levelsFit (kernel l) ∙ l)
+          ∙ rw (kernel l, record-read (c .before .before .before .before .before .before)),
+    )
 
 refused-requires-2 : tie.Need-refused-requires-2
 refused-requires-2 c κs = search needs
@@ -94,7 +100,9 @@ returns-2 c =
     let f = c .before .before .before .before .before .before .before in
     let a = f .before .before .before .before .args in
     c .refused2 .ensures
-    ∙ left-unfit (a .k) (note₀ f) (parts f) (framed f) (a .before) (a .used) (sym (state-read (c .before .before .before) .0) ∙ not-true (c .before .before .before .state-before .result .fits) (c .before .if1 .taken))
+    ∙ left-unfit (a .k) (note₀ f) (parts f) (framed f) (a .before) (a .used)
+    (sym (state-read (c .before .before .before) .0)
+    ∙ not-true (c .before .before .before .state-before .result .fits) (c .before .if1 .taken))
 
 yields-again-requires : tie.Need-yields-again-requires
 yields-again-requires c κs = search needs
@@ -107,7 +115,8 @@ returns-3 c =
     let f = c .before .before .before .before .before .before .before .before .before .before in
     let a = f .before .before .before .before .args in
     c .refused3 .ensures
-    ∙ left-other (a .k) (note₀ f) (parts f) (framed f) (a .before) (a .used) (sym (run-again (c .before .before) .1) ∙ not-true (c .before .before .yields-again .result) (c .before .if2 .taken))
+    ∙ left-other (a .k) (note₀ f) (parts f) (framed f) (a .before) (a .used)
+    (sym (run-again (c .before .before) .1) ∙ not-true (c .before .before .yields-again .result) (c .before .if2 .taken))
 
 returns-4 : tie.Need-returns-4
 returns-4 c =
@@ -115,7 +124,8 @@ returns-4 c =
     let a = f .before .before .before .before .args in
     let (same, y) = run-again (c .before) in
     ap (λ (u : Kernel). logged (answer 0 255 (u .runner)) u (a .before)) same
-    ∙ left-back (a .k) (note₀ f) (parts f) (framed f) (a .before) (a .used) (sym y ∙ not-false (c .before .yields-again .result) (c .if2 .left))
+    ∙ left-back (a .k) (note₀ f) (parts f) (framed f) (a .before) (a .used)
+    (sym y ∙ not-false (c .before .yields-again .result) (c .if2 .left))
 
 pub undo-note-spec : {M : Type 1} → statement M
 undo-note-spec =

@@ -11,7 +11,8 @@ use Rattle.spec_rules.specs.Tests.{keepsRules}
 use Rattle.spec_calls.specs.Calls.{callOf}
 use Rattle.spec_refusals.specs.Refusals.{numberOf}
 use Rattle.spec_answers.specs.Logs.{stateAfter, noteFor}
-use Rattle.replay.proofs.Again.{run-refused, run-accepted, run-next, note-stands, again-broken, again-refused, again-other, again-note}
+use Rattle.replay.proofs.Again.{run-refused, run-accepted, run-next, note-stands}
+use Rattle.replay.proofs.Again.{again-broken, again-refused, again-other, again-note}
 use Rattle.replay.proofs.Compared.{begins-same, other-length}
 use Rattle.replay.proofs.undos.yields_again.Statement.{statement}
 use Rattle.replay.proofs.undos.yields_again.Tie as tie
@@ -44,20 +45,28 @@ returns-2 : tie.Need-returns-2
 returns-2 c = λ l.
     let a = c .before .before .before .before .before .before .before .before .args in
     let d = c .before .before .before in
-    again-refused (a .old) (a .bytes) (a .end) (a .note .now) l (rules d) (run-refused (a .old) (a .bytes) (sixteen d) (all d) _ (d .recorded .ensures .0) (c .if2 .taken))
+    again-refused (a .old) (a .bytes) (a .end) (a .note .now) l (rules d)
+    (run-refused (a .old) (a .bytes) (sixteen d) (all d) _ (d .recorded .ensures .0) (c .if2 .taken))
 
 same-kernel-requires : tie.Need-same-kernel-requires
 same-kernel-requires c κs = search needs
 
 -- where it answers 0: it was accepted, the next state, and that the note stands in front
-ran : (c : tie.After-recorded) → c .recorded .result .answer .number ≡ 0 → let a = c .before .before .before .before .before .args in let l = c .recorded .result in
-    (numberOf (a .old) (callOf (a .bytes)) ≡ 0) × (l .kernel ≡ stateAfter (a .old) (a .bytes)) × (l .used ≤ length (c .recorded .last .1 .1 .0))
+ran : (c : tie.After-recorded) → c .recorded .result .answer .number ≡ 0 → let a =
+    c .before .before .before .before .before .args in let l = c .recorded .result in
+    (numberOf (a .old) (callOf (a .bytes)) ≡ 0) × (l .kernel ≡ stateAfter (a .old) (a .bytes))
+    × (l .used ≤ length (c .recorded .last .1 .1 .0))
     × (take (l .used) (c .recorded .last .1 .1 .0) ≡ noteFor (a .old) (a .bytes)) × (l .used ≡ length (noteFor (a .old) (a .bytes)))
 ran c z =
     let a = c .before .before .before .before .before .args in
     let e = c .recorded .ensures in
-    let (x, y, w) = note-stands (a .old) (a .bytes) (sixteen c) (all c) _ (e .0) z _ (e .1) in
-    (run-accepted (a .old) (a .bytes) (sixteen c) (all c) _ (e .0) z .0, run-next (a .old) (a .bytes) (sixteen c) (all c) _ (e .0) z, x, y, w)
+    let (x, y, w) = note-stands (a .old) (a .bytes) (sixteen c) (all c) _ (e .0) z _ (e .1) in (
+      run-accepted (a .old) (a .bytes) (sixteen c) (all c) _ (e .0) z .0,
+      run-next (a .old) (a .bytes) (sixteen c) (all c) _ (e .0) z,
+      x,
+      y,
+      w,
+    )
 
 returns-3 : tie.Need-returns-3
 returns-3 c = λ l.
@@ -74,13 +83,17 @@ returns-4 c = λ l.
     let (n, e, _, _, w) = ran d (c .before .before .before .before .if2 .left) in
     let u = c .before .before .same-kernel in
     other-length (noteFor (a .old) (a .bytes)) (a .note .now) (λ h. c .if4 .taken (w ∙ h))
-    ∙ again-note (a .old) (a .bytes) (a .end) (a .note .now) l (rules d) n _ e (sym (u .ensures) ∙ not-false (u .result) (c .before .if3 .left))
+    ∙ again-note (a .old) (a .bytes) (a .end) (a .note .now) l (rules d) n _ e
+    (sym (u .ensures) ∙ not-false (u .result) (c .before .if3 .left))
 
 array-share-prefix-again : tie.Need-array-share-prefix-again
-array-share-prefix-again c = ran (c .before .before .before .before .before .before .before) (c .before .before .before .before .if2 .left) .2
+array-share-prefix-again c =
+    ran (c .before .before .before .before .before .before .before) (c .before .before .before .before .if2 .left) .2
 
 slice-aggregate-same-bytes : tie.Need-slice-aggregate-same-bytes
-slice-aggregate-same-bytes c = sym (length-take-le _ _ (ran (c .before .before .before .before .before .before .before .before) (c .before .before .before .before .before .if2 .left) .2))
+slice-aggregate-same-bytes c =
+    sym (length-take-le _ _ (ran (c .before .before .before .before .before .before .before .before)
+    (c .before .before .before .before .before .if2 .left) .2))
 
 same-bytes-requires : tie.Need-same-bytes-requires
 same-bytes-requires c κs = search needs
@@ -94,7 +107,8 @@ returns-5 c = λ l.
     let note = noteFor (a .old) (a .bytes) in
     let b : begins (take (d .recorded .result .used) (d .recorded .last .1 .1 .0)) (a .note .now) ≡ begins note (a .note .now) = rw t in
     c .same-bytes .ensures ∙ b ∙ begins-same note (a .note .now) (sym w ∙ c .before .before .if4 .left)
-    ∙ again-note (a .old) (a .bytes) (a .end) (a .note .now) l (rules d) n _ e (sym (u .ensures) ∙ not-false (u .result) (c .before .before .before .if3 .left))
+    ∙ again-note (a .old) (a .bytes) (a .end) (a .note .now) l (rules d) n _ e
+    (sym (u .ensures) ∙ not-false (u .result) (c .before .before .before .if3 .left))
 
 pub yields-again-spec : {M : Type 1} → statement M
 yields-again-spec =

@@ -45,7 +45,8 @@ returns : tie.Need-returns
 unfolding valueIn
 returns c =
     let note = c .before .before .before .before .args .note .now in
-    let e : framesOf note ≡ nothing = sym (c .before .before .frames-of .ensures) ∙ ap (λ (d : Decoded). meant d note) (c .enum-told .given .1) in
+    let e : framesOf note ≡ nothing =
+    sym (c .before .before .frames-of .ensures) ∙ ap (λ (d : Decoded). meant d note) (c .enum-told .given .1) in
     rw e (same 255 (eqb (getD note 0 0) 2) (eqb (getD note 0 0) 14) (eqb (getD note 0 0) 24 || eqb (getD note 0 0) 27))
 
 byte-at-requires : tie.Need-byte-at-requires
@@ -73,28 +74,38 @@ returns-2 : tie.Need-returns-2
 unfolding valueIn sectionsMeant
 returns-2 c =
     let f = c .before .before .before .before .before in
-    rw (framed f, sym (c .before .before .before .byte-at .ensures) ∙ c .before .before .match2 .keys1) (c .first-of .ensures ∙ ap firstOf (c .before .part-of .ensures))
+    rw (framed f, sym (c .before .before .before .byte-at .ensures) ∙ c .before .before .match2 .keys1)
+    (c .first-of .ensures ∙ ap firstOf (c .before .part-of .ensures))
 
 returns-3 : tie.Need-returns-3
 unfolding valueIn sectionsMeant
 returns-3 c =
     let f = c .before .before .before .before .before in
-    rw (framed f, sym (c .before .before .before .byte-at .ensures) ∙ c .before .before .match2 .keys2) (c .first-of2 .ensures ∙ ap firstOf (c .before .part-of2 .ensures))
+    rw (framed f, sym (c .before .before .before .byte-at .ensures) ∙ c .before .before .match2 .keys2)
+    (c .first-of2 .ensures ∙ ap firstOf (c .before .part-of2 .ensures))
 
 returns-4 : tie.Need-returns-4
 unfolding valueIn sectionsMeant
 returns-4 c =
     let f = c .before .before .before .before .before in
-    let r : c .first-of3 .result ≡ firstOf (partOf (c .before .before .before .before .before .f .given .0 .0 .messages) (note₀ f)) = c .first-of3 .ensures ∙ ap firstOf (c .before .part-of3 .ensures) in
+    let r : c .first-of3 .result ≡ firstOf (partOf (c .before .before .before .before .before .f .given .0 .0 .messages) (note₀ f)) =
+    c .first-of3 .ensures ∙ ap firstOf (c .before .part-of3 .ensures) in
     ⊎-elim (λ (e : c .before .before .before .byte-at .result ≡ 24). rw (framed f, sym (c .before .before .before .byte-at .ensures) ∙ e) r)
-    (λ (e : c .before .before .before .byte-at .result ≡ 27). rw (framed f, sym (c .before .before .before .byte-at .ensures) ∙ e) r) (c .before .before .match2 .keys3)
+    (λ (e : c .before .before .before .byte-at .result ≡ 27). rw (framed f, sym (c .before .before .before .byte-at .ensures) ∙ e) r)
+    (c .before .before .match2 .keys3)
 
 returns-5 : tie.Need-returns-5
 unfolding valueIn
 returns-5 c =
     let b = c .before .byte-at .ensures in
     let r = c .match2 .rest in
-    rw (ne-eqb _ 2 (λ e. r .0 .0 .1 (b ∙ e)), ne-eqb _ 14 (λ e. r .0 .1 (b ∙ e)), ne-eqb _ 24 (λ e. r .1 (inl (b ∙ e))), ne-eqb _ 27 (λ e. r .1 (inr (b ∙ e))))
+    rw (
+      ne-eqb _ 2 (λ e. r .0 .0 .1 (b ∙ e)),
+      ne-eqb _ 14 (λ e. r .0 .1 (b ∙ e)),
+      ne-eqb _ 24 (λ e. r .1 (inl (b ∙ e))),
+      ne-eqb _ 27
+          (λ e. r .1 (inr (b ∙ e))),
+    )
 
 pub value-in-spec : {M : Type 1} → statement M
 value-in-spec =

@@ -24,7 +24,12 @@ came-back-requires c κs = search needs
 returns : tie.Need-returns
 unfolding yieldsNote
 returns c =
-    rw (← c .before .before .before .before .before .before .call-bytes .ensures, ← c .before .before .before .before .called .ensures .0, ← c .before .before .noted-answer .ensures, refused (c .before .came-back .ensures) (c .if1 .taken))
+    rw (
+      ← c .before .before .before .before .before .before .call-bytes .ensures,
+      ← c .before .before .before .before .called .ensures .0,
+      ← c .before .before .noted-answer .ensures,
+      refused (c .before .came-back .ensures) (c .if1 .taken),
+    )
 
 slice-aggregate-same-bytes : tie.Need-slice-aggregate-same-bytes
 slice-aggregate-same-bytes c = search needs
@@ -35,7 +40,13 @@ same-bytes-requires c κs = search needs
 returns-2 : tie.Need-returns-2
 unfolding yieldsNote
 returns-2 c =
-    rw (← c .before .before .before .before .before .before .before .before .call-bytes .ensures, ← c .before .before .before .before .before .before .called .ensures .0, ← c .before .before .before .before .noted-answer .ensures, passed (c .before .before .before .came-back .ensures) (c .before .before .if1 .left), ← c .before .before .before .before .before .before .called .ensures .1) (c .same-bytes .ensures)
+    rw (
+      ← c .before .before .before .before .before .before .before .before .call-bytes .ensures,
+      ← c .before .before .before .before .before .before .called .ensures .0,
+      ← c .before .before .before .before .noted-answer .ensures,
+      passed (c .before .before .before .came-back .ensures) (c .before .before .if1 .left),
+      ← c .before .before .before .before .before .before .called .ensures .1,
+    ) (c .same-bytes .ensures)
 
 pub yields-spec : {M : Type 1} → statement M
 yields-spec =

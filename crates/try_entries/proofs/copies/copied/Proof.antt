@@ -55,10 +55,23 @@ returns-4 : tie.Need-returns-4
 unfolding copiedTo areSame
 returns-4 c =
     let a = c .before .before .before .before .before .before .before .before .before .before .before .before .args in
-    let h = lt-ltb (a .from) (a .to) (omega (arith, c .before .before .before .before .before .before .before .before .before .if1 .left, c .before .before .before .before .before .before .before .before .if2 .left)) in
+    let h =
+    lt-ltb (a .from) (a .to)
+    (omega (
+      arith,
+      c .before .before .before .before .before .before .before .before .before .if1 .left,
+      c .before .before .before .before .before .before .before .before .if2 .left,
+    )) in
     let s = le-ltb (length (a .source .now)) (a .to) (c .before .before .before .before .before .before .before .if3 .left) in
-    let e = ap (λ (p : Pen). p .log) (c .before .before .before .before .put-all .ensures) in
-    (rw (h, s) e, rw (le-ltb (a .to) (a .from) (c .before .before .before .before .before .before .before .before .before .if1 .left), h, s, ← e) (c .same-bytes2 .ensures))
+    let e = ap (λ (p : Pen). p .log) (c .before .before .before .before .put-all .ensures) in (
+      rw (h, s) e,
+      rw (
+        le-ltb (a .to) (a .from) (c .before .before .before .before .before .before .before .before .before .if1 .left),
+        h,
+        s,
+        ← e,
+      ) (c .same-bytes2 .ensures),
+    )
 
 pub copied-spec : {M : Type 1} → statement M
 copied-spec =

@@ -29,7 +29,13 @@ same-answer-requires c κs = search needs
 returns-3 : tie.Need-returns-3
 unfolding acceptedAs
 returns-3 c =
-    rw (le-ltb _ _ (c .before .before .before .before .before .before .if1 .left), le-ltb _ _ (c .before .before .before .before .before .if2 .left), ← c .before .before .noted-answer .ensures, refused (c .before .same-answer .ensures) (c .if3 .taken))
+    rw (
+      le-ltb _ _ (c .before .before .before .before .before .before .if1 .left),
+      le-ltb _ _
+          (c .before .before .before .before .before .if2 .left),
+      ← c .before .before .noted-answer .ensures,
+      refused (c .before .same-answer .ensures) (c .if3 .taken),
+    )
 
 undone-to-requires : tie.Need-undone-to-requires
 undone-to-requires c κs = search needs
@@ -37,7 +43,13 @@ undone-to-requires c κs = search needs
 returns-4 : tie.Need-returns-4
 unfolding acceptedAs
 returns-4 c =
-    rw (le-ltb _ _ (c .before .before .before .before .before .before .before .if1 .left), le-ltb _ _ (c .before .before .before .before .before .before .if2 .left), ← c .before .before .before .noted-answer .ensures, passed (c .before .before .same-answer .ensures) (c .before .if3 .left)) (c .undone-to .ensures)
+    rw (
+      le-ltb _ _ (c .before .before .before .before .before .before .before .if1 .left),
+      le-ltb _ _
+          (c .before .before .before .before .before .before .if2 .left),
+      ← c .before .before .before .noted-answer .ensures,
+      passed (c .before .before .same-answer .ensures) (c .before .if3 .left),
+    ) (c .undone-to .ensures)
 
 pub accepted-spec : {M : Type 1} → statement M
 accepted-spec =

@@ -22,7 +22,11 @@ same-length c = search needs
 returns : tie.Need-returns
 unfolding refusedAs
 returns c =
-    rw (← c .before .before .before .before .before .before .before .before .called .ensures .1, ne-eqb _ 0 (λ z. c .before .if1 .taken (c .before .before .before .before .appended .ensures ∙ z))) (c .ended .ensures)
+    rw (
+      ← c .before .before .before .before .before .before .before .before .called .ensures .1,
+      ne-eqb _ 0 (λ z. c .before .if1 .taken
+          (c .before .before .before .before .appended .ensures ∙ z)),
+    ) (c .ended .ensures)
 
 came-back-requires : tie.Need-came-back-requires
 came-back-requires c κs = search needs
@@ -36,7 +40,12 @@ same-length-2 c = search needs
 returns-2 : tie.Need-returns-2
 unfolding refusedAs
 returns-2 c =
-    rw (← c .before .before .before .before .before .before .before .before .before .called .ensures .1, ← c .before .before .before .before .before .before .before .before .before .called .ensures .0, eq-eqb _ 0 (sym (c .before .before .before .before .before .appended .ensures) ∙ c .before .before .if1 .left)) (c .ended2 .ensures ∙ ap (outcome _) (c .before .came-back .ensures))
+    rw (
+      ← c .before .before .before .before .before .before .before .before .before .called .ensures .1,
+      ← c .before .before .before .before .before .before .before .before .before .called .ensures .0,
+      eq-eqb _ 0 (sym (c .before .before .before .before .before .appended .ensures) ∙ c .before .before .if1 .left),
+    )
+    (c .ended2 .ensures ∙ ap (outcome _) (c .before .came-back .ensures))
 
 pub refused-spec : {M : Type 1} → statement M
 refused-spec =

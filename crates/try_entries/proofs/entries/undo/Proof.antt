@@ -19,7 +19,8 @@ ended-requires c κs = search needs
 returns : tie.Need-returns
 unfolding undoTried
 returns c =
-    rw (← c .before .before .before .undo .ensures, eq-eqb _ 0 (c .before .before .if1 .taken)) (c .ended .ensures ∙ ap (outcome 0) (c .before .undone .ensures))
+    rw (← c .before .before .before .undo .ensures, eq-eqb _ 0 (c .before .before .if1 .taken))
+    (c .ended .ensures ∙ ap (outcome 0) (c .before .undone .ensures))
 
 without-value-requires : tie.Need-without-value-requires
 without-value-requires c κs = search needs
@@ -33,7 +34,11 @@ ended-requires-2 c κs = search needs
 returns-2 : tie.Need-returns-2
 unfolding undoTried
 returns-2 c =
-    rw (← c .before .before .before .before .undo .ensures, ne-eqb _ 0 (c .before .before .before .if1 .left), ← c .before .before .without-value .ensures) (c .ended2 .ensures ∙ ap (outcome _) (c .before .came-back .ensures))
+    rw (
+      ← c .before .before .before .before .undo .ensures,
+      ne-eqb _ 0 (c .before .before .before .if1 .left),
+      ← c .before .before .without-value .ensures,
+    ) (c .ended2 .ensures ∙ ap (outcome _) (c .before .came-back .ensures))
 
 pub undo-spec : {M : Type 1} → statement M
 undo-spec =

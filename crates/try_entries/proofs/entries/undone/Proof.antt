@@ -23,7 +23,12 @@ same-answer-requires c κs = search needs
 returns-3 : tie.Need-returns-3
 unfolding undoneAs
 returns-3 c =
-    rw (le-ltb _ _ (c .before .before .before .before .before .if1 .left), le-ltb _ _ (c .before .before .before .before .if2 .left), ← c .before .before .without-value .ensures, refused (c .before .same-answer .ensures) (c .if3 .taken))
+    rw (
+      le-ltb _ _ (c .before .before .before .before .before .if1 .left),
+      le-ltb _ _ (c .before .before .before .before .if2 .left),
+      ← c .before .before .without-value .ensures,
+      refused (c .before .same-answer .ensures) (c .if3 .taken),
+    )
 
 part-yields-start : tie.Need-part-yields-start
 part-yields-start c = search needs
@@ -37,7 +42,13 @@ yields-requires c κs = search needs
 returns-4 : tie.Need-returns-4
 unfolding undoneAs
 returns-4 c =
-    rw (le-ltb _ _ (c .before .before .before .before .before .before .before .if1 .left), le-ltb _ _ (c .before .before .before .before .before .before .if2 .left), ← c .before .before .before .before .without-value .ensures, passed (c .before .before .before .same-answer .ensures) (c .before .before .if3 .left)) (c .yields .ensures)
+    rw (
+      le-ltb _ _ (c .before .before .before .before .before .before .before .if1 .left),
+      le-ltb _ _
+          (c .before .before .before .before .before .before .if2 .left),
+      ← c .before .before .before .before .without-value .ensures,
+      passed (c .before .before .before .same-answer .ensures) (c .before .before .if3 .left),
+    ) (c .yields .ensures)
 
 pub undone-spec : {M : Type 1} → statement M
 undone-spec =
