@@ -1,7 +1,6 @@
 // Both ways: records from standard input to its end, a line each, with all notes in one log; then every note undone, a line
 // each, the uptime, and whether the state is the fresh one again.
 use base_bytes::pens;
-use code_notes_back::last;
 use replay::undos;
 use spec_answers::Answer;
 use spec_kernel::records::Kernel;
@@ -44,7 +43,7 @@ fn forward(start: Run, s: &[u8], log: &mut [u8]) -> Run {
     let mut end: usize = 0;
     let mut at: usize = 0;
     while 16 <= s.len() - at {
-        let l = code_answers::recorded(run.kernel, last::call_bytes(&s[at..]), log, run.used);
+        let l = replay::recorded(run.kernel, replay::call_bytes(&s[at..]), log, run.used);
         let n = std::num::wrapping_add_u64(run.serial, 1);
         let note = std::num::wrapping_sub_usize(l.used, run.used);
         end = put_call(&mut out, end, n, l.answer, note);
@@ -64,7 +63,7 @@ fn forward(start: Run, s: &[u8], log: &mut [u8]) -> Run {
 fn all_forward(log: &mut [u8; 1048576]) -> Run {
     let mut input = io::buffer();
     let mut run = Run {
-        kernel: code_kernel::records::fresh(),
+        kernel: replay::fresh(),
         used: 0,
         serial: 0,
     };
@@ -104,7 +103,7 @@ fn backwards(k: Kernel, log: &[u8; 1048576], used: usize) -> Kernel {
 fn finished(k: Kernel) {
     io::write_all(1, b"uptime ");
     io::print_decimal(1, k.uptime as u64);
-    if code_notes_same::same_kernel(k, code_kernel::records::fresh()) {
+    if replay::same_kernel(k, replay::fresh()) {
         io::write_all(1, b"\nfresh\n");
     } else {
         io::write_all(1, b"\nother\n");

@@ -1,11 +1,10 @@
 // The bytes of notes: records from standard input to its end, with all notes in one log, whose used part is the output.
-use code_kernel::records;
 
 // A record at a time, from fresh; a shorter tail is dropped. The fresh state keeps its rules, and so does every state after it, so
 // that no call tests them again.
 fn all_forward(log: &mut [u8; 1048576]) {
     let mut bytes = [0u8; 16];
-    let mut k = records::fresh();
+    let mut k = replay::fresh();
     let mut used: usize = 0;
     let mut turns: u64 = 18446744073709551615;
     while 0 < turns {
@@ -13,7 +12,7 @@ fn all_forward(log: &mut [u8; 1048576]) {
         if n < 16 {
             break;
         }
-        let l = code_answers::recorded(k, bytes, log, used);
+        let l = replay::recorded(k, bytes, log, used);
         k = l.kernel;
         used = l.used;
         turns -= 1;

@@ -1,5 +1,4 @@
 // Document 01's printed replay: records from standard input to its end, a line each, then the uptime.
-use code_notes_back::last;
 use spec_answers::Answer;
 use spec_kernel::records::Kernel;
 
@@ -24,7 +23,7 @@ fn replayed(start: Run, s: &[u8]) -> Run {
     let mut end: usize = 0;
     let mut at: usize = 0;
     while 16 <= s.len() - at {
-        let l = code_answers::recorded(run.kernel, last::call_bytes(&s[at..]), &mut log, 0);
+        let l = replay::recorded(run.kernel, replay::call_bytes(&s[at..]), &mut log, 0);
         let n = std::num::wrapping_add_u64(run.serial, 1);
         end = put_answer(&mut out, end, n, l.answer);
         let state = l.kernel;
@@ -48,7 +47,7 @@ fn finished(uptime: u32) {
 fn main() {
     let mut input = io::buffer();
     let mut run = Run {
-        kernel: code_kernel::records::fresh(),
+        kernel: replay::fresh(),
         serial: 0,
     };
     let mut turns: u64 = 18446744073709551615;

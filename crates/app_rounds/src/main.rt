@@ -1,7 +1,5 @@
 // A program for timing: at most 4,096 records from standard input, run 256 times, each time from fresh with an empty log, and
 // no line for a call. It prints how many records a round has, and of all rounds the accepted calls and the bytes of their notes.
-use code_kernel::records;
-use code_notes_back::last;
 use spec_kernel::records::Kernel;
 
 // The accepted calls and the bytes of their notes, of one round or of all so far.
@@ -24,7 +22,7 @@ fn round(fresh: Kernel, s: &[u8], log: &mut [u8]) -> Total {
     let mut accepted: u64 = 0;
     let mut at: usize = 0;
     while 16 <= s.len() - at {
-        let l = code_answers::recorded(k, last::call_bytes(&s[at..]), log, used);
+        let l = replay::recorded(k, replay::call_bytes(&s[at..]), log, used);
         k = l.kernel;
         used = l.used;
         accepted = std::num::wrapping_add_u64(accepted, one_if(l.answer.number == 0));
@@ -38,7 +36,7 @@ fn round(fresh: Kernel, s: &[u8], log: &mut [u8]) -> Total {
 
 // The first of them, and the others.
 fn all_rounds(s: &[u8], log: &mut [u8; 1048576]) -> Total {
-    let fresh = records::fresh();
+    let fresh = replay::fresh();
     let mut total = round(fresh, s, log);
     let mut turn: u64 = 1;
     while turn < 256 {

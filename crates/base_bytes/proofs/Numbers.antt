@@ -2,14 +2,11 @@
 use Prim.Native.Nat.{ℕ, zero, suc, _+_, _*_, _/_, _^_, _<_}
 use mathlib.Core.Path.{_≡_, refl, ap}
 use mathlib.Core.List.{List, [], _∷_, _++_}
-use mathlib.Core.Bool.{Bool, true, false, _&&_, false≢true}
 use native.Mathlib.Nat.{pow-suc}
 use native.Mathlib.Omega.{arith}
-use lib.Dec.{eqb}
-use lib.ListN.{length, getD, drop, take}
+use lib.ListN.{length, getD, drop}
 use lib.Seq.{drop-at, getD-drop}
-use borrow.Author.Tests.{eq-eqb, eqb-true}
-use Rattle.base_bytes.specs.Bytes.{le, un, begins, Small}
+use Rattle.base_bytes.specs.Bytes.{le, un, Small}
 
 pub length-le : (w x : ℕ) → length (le w x) ≡ w
 unfolding le

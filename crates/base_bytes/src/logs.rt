@@ -5,7 +5,8 @@ use crate::pens::put_all;
 
 // The note written behind the first `used` bytes, and where it ends; where it does not fit, nothing.
 pub fn write(log: &mut [u8], used: usize, note: &[u8]) -> usize
-    ensures { λ r. ⌜ (now (log .exit) ≡ noted (now (log .entry)) used (now (note .entry))) × (r ≡ ends (now (log .entry)) used (now (note .entry))) ⌝ }
+    ensures { λ r. ⌜ (now (log .exit) ≡ noted (now (log .entry)) used (now (note .entry)))
+        × (r ≡ ends (now (log .entry)) used (now (note .entry))) ⌝ }
 {
     if log.len() < used {
         return used;

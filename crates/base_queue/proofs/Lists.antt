@@ -2,7 +2,7 @@
 -- means, and a list with one member more or one fewer.
 use Prim.Native.Nat.{ℕ, zero, suc, _+_, _-_, _≤_, _<_, min}
 use mathlib.Core.Path.{_≡_, refl, sym, ap, _∙_}
-use mathlib.Core.List.{List, [], _∷_, _++_, append-nil}
+use mathlib.Core.List.{List, [], _∷_, _++_}
 use mathlib.Core.Bool.{Bool, true, false, cond, _&&_, false≢true}
 use native.Mathlib.Nat.{add-zero, add-suc, suc-add, zero-min, min-zero, suc-min-suc}
 use native.Mathlib.Numerals.{add-one}
@@ -10,7 +10,7 @@ use native.Mathlib.Omega.{arith}
 use lib.Dec.{eqb, ltb, leb·suc-suc}
 use lib.ListN.{length, take, drop, getD, replicate}
 use lib.ListN.{length-append, length-take, length-drop, length-replicate, getD-replicate, drop-of-length-le}
-use lib.Seq.{take-suc, drop-cons, getD-take, take-at, getD-at, take-all, length-take-le, ext-getD}
+use lib.Seq.{take-suc, drop-cons, getD-take, take-at, getD-at, length-take-le, ext-getD}
 use borrow.Author.Tests.{eq-eqb, ne-eqb, lt-ltb, eqb-true}
 use Rattle.base_queue.specs.Lists.{keep, everyFrom, count, placeOf, has, withAt, allZero}
 

@@ -1,19 +1,19 @@
 -- An ordered table: who stands there, what a move leaves of it, and the way back.
-use mathlib.Core.Path.{_≡_, refl, sym, ap, _∙_}
+use mathlib.Core.Path.{_≡_, sym, ap, _∙_}
 use mathlib.Core.Bool.{Bool, true, false, and-eq-true-iff}
-use mathlib.Core.List.{List, [], _∷_}
-use Prim.Native.Nat.{ℕ, zero, suc, _≤_, _<_}
+use mathlib.Core.List.{List}
+use Prim.Native.Nat.{ℕ, _≤_}
 use native.Mathlib.Nat.{zero-add}
 use native.Mathlib.Omega.{arith}
 use lib.ListN.{length, getD, List·getD-eq-default}
 use lib.Dec.{eqb, ltb}
-use borrow.Author.Tests.{eqb-true, eqb-false, eq-eqb, ne-eqb, ltb-true, ltb-false}
+use borrow.Author.Tests.{eqb-true, eqb-false, eq-eqb, ltb-true, ltb-false}
 use borrow.Table.Steps.{cases}
-use Rattle.base_queue.specs.Lists.{everyFrom, keep, isNot, without, count, has, placeOf, withAt, below, Ordered}
+use Rattle.base_queue.specs.Lists.{everyFrom, keep, isNot, without, count, below, Ordered}
 use Rattle.base_queue.specs.Tables.{one, Placed, isPlaced, moved}
-use Rattle.base_queue.proofs.Counts.{same, placeOf-there, below-count, count-below, pigeon}
-use Rattle.base_queue.proofs.Counts.{count-without-same, count-without-other, not-without, without-absent, length-without, keep-past}
-use Rattle.base_queue.proofs.Counts.{count-behind-same, count-behind-other, length-behind, keep-behind-past}
+use Rattle.base_queue.proofs.Counts.{same, below-count, count-below, pigeon}
+use Rattle.base_queue.proofs.Counts.{count-without-same, count-without-other, not-without, keep-past}
+use Rattle.base_queue.proofs.Counts.{count-behind-same, count-behind-other, keep-behind-past}
 use Rattle.base_queue.proofs.Lists.{every-at, every-intro}
 use Rattle.base_queue.proofs.Orders.{ordered-keep, ordered-keys, ordered-behind}
 

@@ -6,7 +6,7 @@ use mathlib.Core.List.{List, [], _∷_}
 use mathlib.Core.Bool.{Bool, true, false, cond, _&&_}
 use lib.Dec.{eqb, leb}
 use lib.ListN.{length}
-use Rattle.base_queue.specs.Lists.{everyFrom, without, count, has, placeOf, withAt, behind, below}
+use Rattle.base_queue.specs.Lists.{everyFrom, without, count, has, placeOf, behind, below}
 
 abbrev pub one : Bool → ℕ
 one true = 1

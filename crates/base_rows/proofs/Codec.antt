@@ -1,5 +1,5 @@
 -- Laws on rows: what is written of an old row reads back beside the predicted one, and how many bytes that takes.
-use Prim.Native.Nat.{ℕ, zero, suc, _+_, _*_, _/_, _%_, _^_, _≤_, _<_, min}
+use Prim.Native.Nat.{ℕ, zero, suc, _+_, _*_, _/_, _%_, _^_, _≤_, _<_}
 use mathlib.Core.Path.{_≡_, refl, sym}
 use mathlib.Core.List.{List, [], _∷_, _++_, append-assoc}
 use mathlib.Core.Bool.{Bool, true, false, cond, not}
@@ -7,11 +7,11 @@ use native.Mathlib.Nat.{pow-suc}
 use native.Mathlib.Omega.{arith}
 use lib.Dec.{eqb}
 use lib.Pow.{pow-pos}
-use lib.ListN.{length, getD, drop, length-append}
+use lib.ListN.{length, drop, length-append}
 use lib.Seq.{drop-at}
 use borrow.Author.Tests.{eqb-true}
-use Rattle.base_bytes.specs.Bytes.{le, un, Small}
-use Rattle.base_rows.specs.Rows.{flagOf, fieldOf, flagsOf, bodyOf, firstFlagged, rowFrom, usedBy, cut, sum, Fit}
+use Rattle.base_bytes.specs.Bytes.{le, un}
+use Rattle.base_rows.specs.Rows.{flagOf, fieldOf, flagsOf, bodyOf, firstFlagged, rowFrom, usedBy, sum, Fit}
 use Rattle.base_bytes.proofs.Numbers.{length-le, un-le}
 
 -- The first field is flagged where it is not as predicted, and behind its flag are the others'.

@@ -1,3 +1,4 @@
 pub mod Found
 pub mod Numbers
 pub mod Recording
+pub mod Sections

@@ -17,6 +17,7 @@ use Rattle.spec_notes.proofs.FramesRead.{note-sizes}
 use Rattle.code_notes.specs.Spans.{noteIn}
 use Rattle.code_notes.proofs.SpansOfCalls.{note-in}
 use Rattle.spec_answers.specs.Steps.{answer}
+use Rattle.code_answers_given.specs.Given.{given}
 use Rattle.spec_answers.specs.Logs.{logged, stateAfter, noteFor, recorded, logAfter}
 
 module _ (k : Kernel) (bytes log : List ℕ) (used : ℕ) where
@@ -51,8 +52,8 @@ module _ (k : Kernel) (bytes log : List ℕ) (used : ℕ) where
 -- What a call that is not refused leaves: u the next state, v the value, log′ and end the writer's.
 pub record Left (k : Kernel) (bytes log log′ : List ℕ) (used end v : ℕ) (u : Kernel) : Type 0 where
   pub log-after : log′ ≡ logAfter k bytes log used
-  pub no-room : end ≡ used → logged (answer 13 255 (k .runner)) k used ≡ recorded k bytes log used
-  pub with-room : (end ≡ used → ⊥) → logged (answer 0 v (u .runner)) u end ≡ recorded k bytes log used
+  pub no-room : end ≡ used → logged (given v (k .runner) (u .runner) used end) k used ≡ recorded k bytes log used
+  pub with-room : (end ≡ used → ⊥) → logged (given v (k .runner) (u .runner) used end) u end ≡ recorded k bytes log used
 
 pub left : (k : Kernel) (bytes log log′ : List ℕ) (used end v : ℕ) (u : Kernel) → length bytes ≡ 16 → length (k .threads) ≡ 32
     → numberOf k (callOf bytes) ≡ 0 → v ≡ valueOf k (callOf bytes) → u ≡ stateAfter k bytes
@@ -63,6 +64,6 @@ left k bytes log log′ used end v u sixteen all n e s (l, d) =
     let f : end ≡ ends log used (noteFor k bytes) = d ∙ ap (ends log used) same in
     record {
       log-after = l ∙ ap (noted log used) same ∙ log-noted k bytes log used sixteen n;
-      no-room = λ h. ends-full k bytes log used sixteen n (sym f ∙ h);
-      with-room = λ h. rw (s, e, f) (ends-noted k bytes log used sixteen n (λ z. h (f ∙ z)));
+      no-room = λ h. rw (eq-eqb end used h) (ends-full k bytes log used sixteen n (sym f ∙ h));
+      with-room = λ h. rw (ne-eqb end used h, s, e, f) (ends-noted k bytes log used sixteen n (λ z. h (f ∙ z)));
     }

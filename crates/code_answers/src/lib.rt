@@ -62,15 +62,16 @@ pub fn recorded(k: Kernel, bytes: [u8; 16], log: &mut [u8], used: usize) -> Logg
     let fifth = note::put_message_part(&mut buffer, fourth, c, k, next, value);
     let size = note::put_end(&mut buffer, fifth);
     let end = base_bytes::logs::write(log, used, &buffer[..size]);
+    let answer = code_answers_given::given(value, k.runner, next.runner, used, end);
     if end == used {
-        return refused(13, k.runner, k, used);
+        return Logged {
+            answer: answer,
+            kernel: k,
+            used: used,
+        };
     }
     Logged {
-        answer: Answer {
-            number: 0,
-            value: value,
-            runner: next.runner,
-        },
+        answer: answer,
         kernel: next,
         used: end,
     }

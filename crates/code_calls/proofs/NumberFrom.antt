@@ -6,7 +6,7 @@ use mathlib.Core.List.{List, [], _∷_, _++_}
 use native.Mathlib.Omega.{arith}
 use lib.Dec.{eqb}
 use lib.ListN.{length, take, drop}
-use borrow.Author.Tests.{not-true, eqb-true, eqb-false, ne-eqb}
+use borrow.Author.Tests.{eqb-true, ne-eqb}
 use borrow.Table.Steps.{cases}
 use Rattle.spec_kernel.specs.declared.records.Kernel.{Kernel}
 use Rattle.spec_kernel.specs.Records.{thread, semaphore, event, message, noSemaphore, noMessage}
@@ -19,7 +19,7 @@ use Rattle.spec_refusals.specs.Refusals.{is, isOneOf, interruptsOff, noCaller, 
 use Rattle.spec_refusals.specs.Refusals.{popsNothing, stopsCaller, blocksInRegion, noneFree, refusals, firstThatApplies, numberOf}
 use Rattle.code_calls.specs.Named.{waiterBy, foundBy, namedBy, badIdOf, hasWaitersOf, stopsCallerOf, blocksOf, noneFreeOf}
 use Rattle.code_calls.specs.Named.{firstNumber, secondNumber, thirdNumber, orElse, numberFrom}
-use Rattle.spec_refusals.proofs.Applies.{and-left, and-right, lacks, lacks-head}
+use Rattle.spec_refusals.proofs.Applies.{and-right, lacks, lacks-head}
 
 -- the first of a list, or else of a second one, is the first of both
 or-else : (m l : List (ℕ × Bool)) → lacks 0 l ≡ true → orElse (firstThatApplies l) (firstThatApplies m) ≡ firstThatApplies (l ++ m)

@@ -1,8 +1,8 @@
 -- How long the parts of a note can be, whatever the two states hold; and what a scratch array holds that is long enough.
-use Prim.Native.Nat.{ℕ, zero, suc, _+_, _*_, _/_, _%_, _≤_, _<_}
+use Prim.Native.Nat.{ℕ, suc, _+_, _*_, _/_, _%_, _≤_, _<_}
 use mathlib.Core.Path.{_≡_, refl, ap, sym, _∙_}
 use mathlib.Core.Bool.{Bool, true, false, cond}
-use mathlib.Core.List.{List, [], _∷_, _++_}
+use mathlib.Core.List.{List, [], _∷_}
 use native.Mathlib.Nat.{zero-mul, mod-eq-of-lt}
 use native.Mathlib.Omega.{arith}
 use lib.Dec.{eqb, ltb}
@@ -13,7 +13,6 @@ use Rattle.base_bytes.specs.Bytes.{le}
 use Rattle.base_bytes.specs.Pens.{pen, puts}
 use Rattle.base_rows.specs.Rows.{flagsOf, bodyOf, sum}
 use Rattle.base_rows.proofs.Codec.{body-short}
-use Rattle.base_bytes.proofs.Numbers.{length-le}
 use Rattle.base_bytes.proofs.Writing.{front-written, length-puts}
 use Rattle.spec_kernel.specs.declared.records.Thread.{Thread}
 use Rattle.spec_kernel.specs.declared.records.Semaphore.{Semaphore}

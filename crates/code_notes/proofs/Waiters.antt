@@ -1,6 +1,6 @@
 -- Only a post can touch the first that waits for a semaphore: for other kinds it needn't be known.
 use Prim.Native.Nat.{ℕ}
-use mathlib.Core.Path.{_≡_, refl, ap, _∙_}
+use mathlib.Core.Path.{_≡_, refl, ap}
 use mathlib.Core.Bool.{Bool, true, false, cond, _||_}
 use mathlib.Core.List.{[], _∷_}
 use Rattle.spec_kernel.specs.declared.records.Kernel.{Kernel}

@@ -11,7 +11,6 @@ use Rattle.code_kernel_find.specs.AtHome.{firstAtHome}
 use Rattle.spec_calls.specs.declared.call.Call.{Call}
 use Rattle.spec_calls.specs.Calls.{callOf}
 use Rattle.spec_refusals.specs.Refusals.{is, isOneOf}
-use Rattle.spec_effects.specs.Effects.{valueOf}
 use Rattle.spec_notes.specs.Touched.{touchedThread, touchedSemaphore, touchedEvent, touchedMessage}
 use Rattle.spec_notes.specs.Sections.{entriesFrom, threadEntry, semaphoreEntry, eventEntry, messageEntry, schedulerSection}
 use Rattle.spec_notes.specs.Notes.{section}

@@ -49,7 +49,8 @@ fn put_section(log: &mut [u8], at: usize, part: &[u8]) -> usize
 
 // The call record, and the scheduler's section.
 pub fn put_start(log: &mut [u8], bytes: [u8; 16], c: Call, k: Kernel, k2: Kernel) -> usize
-    ensures { λ r. ⌜ pen (now (log .exit)) r ≡ puts (puts (pen (now (log .entry)) 0) bytes) (section (levelsNoted c (levelsOf k) (levelsOf k2))) ⌝ }
+    ensures { λ r. ⌜ pen (now (log .exit)) r
+        ≡ puts (puts (pen (now (log .entry)) 0) bytes) (section (levelsNoted c (levelsOf k) (levelsOf k2))) ⌝ }
 {
     let old = Levels {
         unscheduled: k.unscheduled,
@@ -78,7 +79,8 @@ pub fn put_thread_part(
     value: u8,
     waiter: u8,
 ) -> usize
-    ensures { λ r. ⌜ pen (now (log .exit)) r ≡ puts (pen (now (log .entry)) at) (section (threadPart c (k .runner) waiter (threadsOf k) (k2 .threads) value)) ⌝ }
+    ensures { λ r. ⌜ pen (now (log .exit)) r
+        ≡ puts (pen (now (log .entry)) at) (section (threadPart c (k .runner) waiter (threadsOf k) (k2 .threads) value)) ⌝ }
 {
     let s = spans::thread_span(c, k.runner, value, waiter);
     if s.count == 0 {
@@ -106,7 +108,8 @@ pub fn put_semaphore_part(
     k2: Kernel,
     value: u8,
 ) -> usize
-    ensures { λ r. ⌜ pen (now (log .exit)) r ≡ puts (pen (now (log .entry)) at) (section (semaphorePart c (k .semaphores) (k2 .semaphores) value)) ⌝ }
+    ensures { λ r. ⌜ pen (now (log .exit)) r
+        ≡ puts (pen (now (log .entry)) at) (section (semaphorePart c (k .semaphores) (k2 .semaphores) value)) ⌝ }
 {
     let s = spans::semaphore_span(c, value);
     if s.count == 0 {
@@ -121,7 +124,8 @@ pub fn put_semaphore_part(
 }
 
 pub fn put_event_part(log: &mut [u8], at: usize, c: Call, k: Kernel, k2: Kernel) -> usize
-    ensures { λ r. ⌜ pen (now (log .exit)) r ≡ puts (pen (now (log .entry)) at) (section (eventPart c (k .bits) (k2 .bits) (k .events) (k2 .events))) ⌝ }
+    ensures { λ r. ⌜ pen (now (log .exit)) r
+        ≡ puts (pen (now (log .entry)) at) (section (eventPart c (k .bits) (k2 .bits) (k .events) (k2 .events))) ⌝ }
 {
     let s = spans::event_span(c);
     let first = s.first as u8;
@@ -141,7 +145,8 @@ pub fn put_message_part(
     k2: Kernel,
     value: u8,
 ) -> usize
-    ensures { λ r. ⌜ pen (now (log .exit)) r ≡ puts (pen (now (log .entry)) at) (section (messagePart c (k2 .runner) (postsOf k) (k2 .messages) value)) ⌝ }
+    ensures { λ r. ⌜ pen (now (log .exit)) r
+        ≡ puts (pen (now (log .entry)) at) (section (messagePart c (k2 .runner) (postsOf k) (k2 .messages) value)) ⌝ }
 {
     let s = spans::message_span(c, value);
     if s.count == 0 {

@@ -1,5 +1,3 @@
-// The way back, read from a note: its frame, and the state before.
-pub mod frames;
-pub mod last;
+// The way back, read from the sections of a note: the state before.
 pub mod state_back;
 pub mod table_back;

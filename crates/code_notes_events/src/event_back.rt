@@ -19,7 +19,8 @@ const WIDTHS: [u8; 8] = [1, 4, 4, 0, 0, 0, 0, 0];
 // A record before, of the record after and an entry whose flags stand at a place.
 fn record_at(r: Event, s: &[u8], at: usize) -> Event
     requires { ⌜ at ≤ length (now s) ⌝ }
-    ensures { λ x. ⌜ x ≡ eventFrom (rowFrom eventWidths (getD (now (s .entry)) at 0) (predictedEvent r) (drop (at + 1) (now (s .entry)))) ⌝ }
+    ensures { λ x. ⌜ x ≡ eventFrom
+        (rowFrom eventWidths (getD (now (s .entry)) at 0) (predictedEvent r) (drop (at + 1) (now (s .entry)))) ⌝ }
 {
     let flags = byte_at(s, at);
     let told = event_rows::row_of(r);

@@ -28,7 +28,8 @@ fn put_event(log: &mut [u8], at: usize, i: u8, old: Event, new: Event) -> usize
 
 // The same, where it changed.
 fn put_changed_event(log: &mut [u8], at: usize, i: u8, old: Event, new: Event) -> usize
-    ensures { λ r. ⌜ pen (now (log .exit)) r ≡ puts (pen (now (log .entry)) at) (cond (not (sameEvent old new)) (eventNoted i old new) []) ⌝ }
+    ensures { λ r. ⌜ pen (now (log .exit)) r
+        ≡ puts (pen (now (log .entry)) at) (cond (not (sameEvent old new)) (eventNoted i old new) []) ⌝ }
 {
     if event_rows::same(old, new) {
         return at;

@@ -28,7 +28,9 @@ pub struct Filing {
 // The row before, of the record after and an entry whose flags stand at a place. It fits its widths.
 fn row_before(c: Call, runner: u8, r: Message, s: &[u8], at: usize) -> Row
     requires { ⌜ at ≤ length (now s) ⌝ }
-    ensures { λ x. ⌜ (x .fields ≡ rowFrom messageWidths (getD (now (s .entry)) at 0) (predictedMessage c runner r) (drop (at + 1) (now (s .entry)))) × (fitted messageWidths (x .fields) ≡ x .fields) ⌝ }
+    ensures { λ x. ⌜ (x .fields
+        ≡ rowFrom messageWidths (getD (now (s .entry)) at 0) (predictedMessage c runner r) (drop (at + 1) (now (s .entry))))
+        × (fitted messageWidths (x .fields) ≡ x .fields) ⌝ }
 {
     let flags = byte_at(s, at);
     let told = message_rows::predicted(c, runner, r);

@@ -51,7 +51,9 @@ fn put_changed_message(
     posted: Queue,
     new: Message,
 ) -> usize
-    ensures { λ r. ⌜ pen (now (log .exit)) r ≡ puts (pen (now (log .entry)) at) (cond (not (sameMessage old new)) (messageNoted m c runner old (oldPlace m (items posted)) new) []) ⌝ }
+    ensures { λ r. ⌜ pen (now (log .exit)) r
+        ≡ puts (pen (now (log .entry)) at)
+        (cond (not (sameMessage old new)) (messageNoted m c runner old (oldPlace m (items posted)) new) []) ⌝ }
 {
     if message_rows::same(old, new) {
         return at;

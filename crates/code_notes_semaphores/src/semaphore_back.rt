@@ -20,7 +20,8 @@ const WIDTHS: [u8; 8] = [1, 2, 2, 4, 4, 0, 0, 0];
 // A record before, of the record after and an entry whose flags stand at a place.
 fn record_at(c: Call, r: Semaphore, s: &[u8], at: usize) -> Semaphore
     requires { ⌜ at ≤ length (now s) ⌝ }
-    ensures { λ x. ⌜ x ≡ semaphoreFrom (rowFrom semaphoreWidths (getD (now (s .entry)) at 0) (predictedSemaphore c r) (drop (at + 1) (now (s .entry)))) ⌝ }
+    ensures { λ x. ⌜ x ≡ semaphoreFrom
+        (rowFrom semaphoreWidths (getD (now (s .entry)) at 0) (predictedSemaphore c r) (drop (at + 1) (now (s .entry)))) ⌝ }
 {
     let flags = byte_at(s, at);
     let told = semaphore_rows::predicted(c, r);

@@ -35,7 +35,8 @@ fn put_changed_semaphore(
     old: Semaphore,
     new: Semaphore,
 ) -> usize
-    ensures { λ r. ⌜ pen (now (log .exit)) r ≡ puts (pen (now (log .entry)) at) (cond (changedSemaphore c old new) (semaphoreNoted i c old new) []) ⌝ }
+    ensures { λ r. ⌜ pen (now (log .exit)) r
+        ≡ puts (pen (now (log .entry)) at) (cond (changedSemaphore c old new) (semaphoreNoted i c old new) []) ⌝ }
 {
     if semaphore_rows::same(old, semaphore_rows::younger(c, new)) {
         return at;

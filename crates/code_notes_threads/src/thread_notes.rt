@@ -1,7 +1,5 @@
 // The threads' section: who is touched by a call, and the entry of each.
 ghost use mathlib.Core.Path.{_≡_};
-ghost use mathlib.Core.Bool.{cond};
-ghost use mathlib.Core.List.{[]};
 ghost use Rattle.base_bytes.specs.Pens.{pen, puts};
 ghost use Rattle.spec_notes.specs.Touched.{movesInPlace, changedThread};
 ghost use Rattle.spec_notes.specs.Sections.{entriesFrom, threadNoted};
@@ -99,7 +97,8 @@ pub fn put_threads(
     first: u16,
     count: u8,
 ) -> usize
-    ensures { λ r. ⌜ pen (now (log .exit)) r ≡ puts (pen (now (log .entry)) at) (entriesFrom (isChanged c runner old new) (entryOf c old new) first count) ⌝ }
+    ensures { λ r. ⌜ pen (now (log .exit)) r
+        ≡ puts (pen (now (log .entry)) at) (entriesFrom (isChanged c runner old new) (entryOf c old new) first count) ⌝ }
 {
     let places = old.places;
     let time = old.time;

@@ -1,6 +1,7 @@
 // The state rules of the whole state, as a test.
 ghost use mathlib.Core.Path.{_≡_};
-ghost use Rattle.spec_rules.specs.Tests.{placesKept, timeKept, postedKept, threadsKept, semaphoresKept, messagesKept, runnerKept, keepsRules};
+ghost use Rattle.spec_rules.specs.Tests.{placesKept, timeKept, postedKept, threadsKept};
+ghost use Rattle.spec_rules.specs.Tests.{semaphoresKept, messagesKept, runnerKept, keepsRules};
 use spec_kernel::records::Kernel;
 
 mod tables;

@@ -1,8 +1,10 @@
 // Semaphores: create, destroy, periodic, pend and post.
 ghost use mathlib.Core.Path.{_≡_};
+ghost use mathlib.Core.Bool.{cond};
 ghost use Rattle.spec_moves.specs.States.{withSemaphore};
 ghost use Rattle.code_semaphores.specs.Waiting.{Does};
-ghost use Rattle.spec_semaphores.specs.Semaphores.{withCount, withTicks, createSemaphore, destroySemaphore, makePeriodic, removePeriodic, pendSemaphore, raised, post, postSemaphore};
+ghost use Rattle.spec_semaphores.specs.Semaphores.{withCount, withTicks, createSemaphore, destroySemaphore, makePeriodic};
+ghost use Rattle.spec_semaphores.specs.Semaphores.{removePeriodic, pendSemaphore, raised, post, postSemaphore};
 use crate::waiting;
 use crate::waiting::Waiting;
 use code_kernel::records::no_semaphore;
@@ -92,10 +94,13 @@ pub fn pend_semaphore(k: Kernel, c: Call) -> Kernel
     code_threads::block(k, Condition::ForSemaphore(c.a), c.c)
 }
 
-// One more, up to the maximum.
-fn raised(r: Semaphore) -> Semaphore
-    ensures { λ x. ⌜ x ≡ raised r ⌝ }
+// The record after a post: the count stays where a waiter wakes; else it goes up by one, but not past the maximum.
+fn counted(r: Semaphore, wakes: bool) -> Semaphore
+    ensures { λ x. ⌜ x ≡ cond wakes r (raised r) ⌝ }
 {
+    if wakes {
+        return r;
+    }
     if r.count < r.maximum {
         return with_count(r, r.count + 1);
     }
@@ -111,13 +116,15 @@ pub fn post(w: Waiting, i: u8) -> Waiting
     let places = p.places;
     let semaphores = w.semaphores;
     let first = firsts::first_at_home(records, places, 256 + (i as u16));
+    let wakes = first != 255;
+    let next = waiting::stored(w, i, counted(by_id::semaphore_at(semaphores, i), wakes));
     if first == 255 {
-        let r = by_id::semaphore_at(semaphores, i);
-        return waiting::stored(w, i, raised(r));
+        return next;
     }
+    let after = next.semaphores;
     Waiting {
         threads: code_threads::woken(p, first, Wake::Met),
-        semaphores: semaphores,
+        semaphores: after,
     }
 }
 

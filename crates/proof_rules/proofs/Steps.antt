@@ -12,14 +12,14 @@ use Rattle.base_queue.specs.Lists.{count}
 use Rattle.base_queue.specs.Queues.{items}
 use Rattle.base_queue.proofs.Counts.{same, count-keep, kept}
 use Rattle.spec_kernel.specs.declared.records.Condition.{Condition}
-use Rattle.spec_kernel.specs.declared.records.Condition.the-variants.{ForSemaphore, ForEvent}
+use Rattle.spec_kernel.specs.declared.records.Condition.the-variants.{ForSemaphore}
 use Rattle.spec_kernel.specs.declared.records.Wake.{Wake}
 use Rattle.spec_kernel.specs.declared.records.Thread.{Thread}
 use Rattle.spec_kernel.specs.declared.records.Semaphore.{Semaphore}
 use Rattle.spec_kernel.specs.declared.records.Kernel.{Kernel}
 use Rattle.spec_kernel.specs.Records.{thread, message}
 use Rattle.spec_kernel.specs.Conditions.{isReady, readyFor, awaits}
-use Rattle.spec_kernel.specs.Places.{homeOf, atHome, nowhere, semaphoreQueue, eventQueue}
+use Rattle.spec_kernel.specs.Places.{homeOf, atHome, nowhere, semaphoreQueue}
 use Rattle.spec_calls.specs.declared.call.Call.{Call}
 use Rattle.spec_calls.specs.Kinds.{fromThread}
 use Rattle.spec_refusals.specs.Refusals.{inRegion}

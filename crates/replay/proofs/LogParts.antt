@@ -1,14 +1,13 @@
 -- The part that a call wrote lies between the two used lengths.
-use Prim.Native.Nat.{ℕ, _+_, _-_, _≤_, _<_}
-use mathlib.Core.Path.{_≡_, refl, _∙_}
-use mathlib.Core.Bool.{Bool, true, false, cond}
+use Prim.Native.Nat.{ℕ, _-_, _≤_, _<_}
+use mathlib.Core.Path.{_≡_, refl}
 use mathlib.Core.List.{List, []}
 use native.Mathlib.Omega.{arith}
 use lib.Dec.{eqb}
 use lib.ListN.{length, take, drop}
 use borrow.Table.Steps.{cases}
 use Rattle.base_bytes.specs.Logs.{room, noted, ends, shown}
-use Rattle.base_bytes.proofs.Appending.{shown-between, shown-still, ends-moved, noted-length}
+use Rattle.base_bytes.proofs.Appending.{shown-between, shown-still, ends-moved}
 use Rattle.spec_kernel.specs.declared.records.Kernel.{Kernel}
 use Rattle.spec_rules.specs.Tests.{keepsRules}
 use Rattle.spec_calls.specs.Calls.{callOf}

@@ -1,6 +1,6 @@
 -- A call on a state: what comes back, and the next state.
 use Prim.Native.Nat.{ℕ}
-use mathlib.Core.Bool.{Bool, true, false, cond}
+use mathlib.Core.Bool.{cond}
 use mathlib.Core.List.{List}
 use lib.Dec.{eqb}
 use Rattle.spec_kernel.specs.declared.records.Kernel.{Kernel}

@@ -3,10 +3,10 @@ use Prim.Native.Nat.{ℕ, zero, suc, _≤_}
 use mathlib.Core.Path.{_≡_, refl, sym, ap, _∙_}
 use mathlib.Core.List.{List, map}
 use native.Mathlib.Omega.{arith}
-use lib.Dec.{eqb, ltb}
+use lib.Dec.{eqb}
 use lib.ListN.{getD, set, replicate, List·getD-map}
 use lib.Seq.{getD-set-other}
-use borrow.Author.Tests.{eqb-true, eqb-false, ltb-true, ltb-false}
+use borrow.Author.Tests.{eqb-true, eqb-false}
 use borrow.Table.Steps.{cases}
 use Rattle.spec_kernel.specs.declared.records.Kernel.{Kernel}
 use Rattle.spec_moves.proofs.Joins.{past-end}

@@ -2,7 +2,7 @@
 -- They are stored in three tables. `places` has the ready lists by priority, then the semaphores' queues, then the events';
 -- `posted` has the channels by owner, then by number; `time` is the time queue. A list is the run of a table that has its home.
 use Prim.Native.Nat.{ℕ, _+_, _*_}
-use mathlib.Core.Bool.{Bool, true, false, not, cond, _&&_}
+use mathlib.Core.Bool.{Bool, not, cond, _&&_}
 use mathlib.Core.List.{List}
 use lib.Dec.{eqb, ltb}
 use Rattle.base_queue.specs.Lists.{keep}

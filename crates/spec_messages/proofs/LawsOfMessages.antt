@@ -10,18 +10,17 @@ use borrow.Author.Tests.{eqb-true, ne-eqb, ltb-true, ltb-false, lt-ltb}
 use borrow.Table.Steps.{cases}
 use Rattle.base_queue.specs.Lists.{keep, without, count, firstOf}
 use Rattle.base_queue.specs.Queues.{items}
-use Rattle.base_queue.proofs.Counts.{same, count-head, count-keep, kept, keep-keep, keep-same, without-absent}
+use Rattle.base_queue.proofs.Counts.{same, count-head, count-keep, kept, keep-keep, keep-same}
 use Rattle.base_queue.proofs.Orders.{ordered-low, ordered-keep}
 use Rattle.spec_kernel.specs.declared.records.Condition.{Condition}
 use Rattle.spec_kernel.specs.declared.records.Condition.the-variants.{Ready, Asleep, ForSemaphore, ForEvent, ForMessage}
 use Rattle.spec_kernel.specs.declared.records.Wake.{Wake}
 use Rattle.spec_kernel.specs.declared.records.Message.{Message}
 use Rattle.spec_kernel.specs.declared.records.Kernel.{Kernel}
-use Rattle.spec_kernel.specs.Records.{thread, message, noMessage}
+use Rattle.spec_kernel.specs.Records.{thread, message}
 use Rattle.spec_kernel.specs.Conditions.{readyFor, masks, awaits}
 use Rattle.spec_kernel.specs.Places.{nowhere, isQueued, streamOf, onChannel, channel}
 use Rattle.spec_moves.specs.Standing.{threadsOf, postsOf, Standing, Filed}
-use Rattle.spec_moves.proofs.Joins.{past-end}
 use Rattle.spec_moves.proofs.Posts.{repost-same, repost-other, repost-joins-channel, repost-leaves-channel}
 use Rattle.spec_kernel.specs.Channels.{isFor, firstFor, nextMessage}
 use Rattle.spec_calls.specs.declared.call.Call.{Call}

@@ -1,13 +1,12 @@
 -- Where one joins a queue: laws that several proofs of the functions share.
 use Prim.Native.Nat.{ℕ, _+_, _≤_, _<_}
-use mathlib.Core.Path.{_≡_, _∙_}
+use mathlib.Core.Path.{_≡_}
 use mathlib.Core.Bool.{Bool, true, false}
 use mathlib.Core.List.{List}
 use native.Mathlib.Omega.{arith}
 use lib.Dec.{ltb}
 use lib.ListN.{length, take, drop, getD, List·getD-eq-default}
-use borrow.Author.Tests.{lt-ltb, le-ltb, ne-eqb}
-use borrow.Table.Steps.{cases}
+use borrow.Author.Tests.{lt-ltb, le-ltb}
 use Rattle.base_queue.specs.declared.Queue.{Queue}
 use Rattle.base_queue.specs.Lists.{without}
 use Rattle.base_queue.specs.Queues.{items, pack, roomFor}
@@ -15,7 +14,7 @@ use Rattle.base_queue.specs.Tables.{moved, placeBehind}
 use Rattle.base_queue.proofs.Lists.{rest-next, rest-end}
 use Rattle.base_queue.proofs.Queues.{items-pack, length-items, sized-items}
 use Rattle.base_queue.proofs.Counts.{behind-place}
-use Rattle.spec_moves.specs.Moves.{hasRoom, rejoined}
+use Rattle.spec_moves.specs.Moves.{rejoined}
 
 -- a record past the last is the default
 pub past-end : {A : Type 0} (l : List A) (d : A) {k u : ℕ} → length l ≡ k → k ≤ u → getD l u d ≡ d

@@ -11,13 +11,13 @@ use borrow.Author.Tests.{eqb-true, eqb-false, ne-eqb, lt-ltb, le-ltb}
 use borrow.Table.Steps.{cases}
 use Rattle.base_queue.specs.declared.Queue.{Queue}
 use Rattle.base_queue.specs.Lists.{keep, isNot, without, count, behind, Ordered}
-use Rattle.base_queue.specs.Queues.{items, pack, Tidy}
+use Rattle.base_queue.specs.Queues.{items, Tidy}
 use Rattle.base_queue.specs.Tables.{one, Placed, moved}
 use Rattle.base_queue.proofs.Queues.{items-pack, tidy-pack}
 use Rattle.base_queue.proofs.Counts.{same, kept, keep-same, keep-without, keep-past}
 use Rattle.base_queue.proofs.Counts.{count-without-same, count-without-other, not-without, pigeon, behind-last}
 use Rattle.base_queue.proofs.Orders.{ordered-keep, ordered-keys, keep-behind}
-use Rattle.base_queue.proofs.Tables.{placed-once, placed-past, placed-short, moved-placed, moved-ordered, keep-moved}
+use Rattle.base_queue.proofs.Tables.{placed-once, placed-past, moved-placed, moved-ordered, keep-moved}
 use Rattle.spec_moves.specs.Moves.{hasRoom, rejoined}
 
 -- nobody stands twice and all are below n: once x, below n too, has left, fewer than n are there

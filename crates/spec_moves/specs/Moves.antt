@@ -13,7 +13,7 @@ use Rattle.spec_kernel.specs.declared.records.Message.{Message}
 use Rattle.spec_moves.specs.declared.parts.Threads.{Threads}
 use Rattle.spec_moves.specs.declared.parts.Posts.{Posts}
 use Rattle.spec_kernel.specs.Records.{noThread, noMessage}
-use Rattle.spec_kernel.specs.Places.{homeOf, hasHome, rankOf, isQueued, streamOf}
+use Rattle.spec_kernel.specs.Places.{hasHome, rankOf, isQueued, streamOf}
 
 -- a queue of 64 places has room once x has left it
 abbrev pub hasRoom : ℕ → List ℕ → Bool

@@ -1,8 +1,8 @@
 -- The way back: the state before, of the state after, the call and the note's sections, whatever they hold.
 use Prim.Native.Nat.{ℕ, zero, suc, _+_, _-_}
-use mathlib.Core.Bool.{Bool, true, false, not, cond, _&&_, _||_}
-use mathlib.Core.List.{List, [], _∷_, _++_, map}
-use lib.Dec.{eqb, ltb}
+use mathlib.Core.Bool.{Bool, cond}
+use mathlib.Core.List.{List, [], _∷_, map}
+use lib.Dec.{eqb}
 use lib.ListN.{length, getD, set, drop, replicate}
 use Rattle.base_queue.specs.declared.Queue.{Queue}
 use Rattle.base_queue.specs.Lists.{keep}
@@ -18,7 +18,7 @@ use Rattle.spec_kernel.specs.Records.{noThread, noSemaphore, noEvent, noMessage
 use Rattle.spec_kernel.specs.Runner.{chosen}
 use Rattle.spec_moves.specs.States.{withRunner}
 use Rattle.spec_calls.specs.declared.call.Call.{Call}
-use Rattle.spec_refusals.specs.Refusals.{is, isOneOf}
+use Rattle.spec_refusals.specs.Refusals.{is}
 use Rattle.spec_notes.specs.Rows.{threadFrom, threadWidths, semaphoreFrom, semaphoreWidths}
 use Rattle.spec_notes.specs.Rows.{eventFrom, eventWidths, messageFrom, messageWidths, schedulerWidths}
 use Rattle.spec_notes.specs.Touched.{youngerThread, youngerSemaphore}

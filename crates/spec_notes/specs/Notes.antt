@@ -1,6 +1,6 @@
 -- The note of a call: the call record, five sections each after its two-byte length, and the whole length.
 use Prim.Native.Nat.{ℕ, _+_}
-use mathlib.Core.List.{List, [], _∷_, _++_}
+use mathlib.Core.List.{List, _++_}
 use lib.ListN.{length}
 use Rattle.base_bytes.specs.Bytes.{le}
 use Rattle.spec_kernel.specs.declared.records.Kernel.{Kernel}

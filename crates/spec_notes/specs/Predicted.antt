@@ -1,10 +1,9 @@
 -- What of an old record can be told from the call and the record after it: the closer, the shorter the note.
 -- Nothing here has to be right: a field that isn't as predicted is written.
 use Prim.Native.Nat.{ℕ, _+_, _-_}
-use mathlib.Core.Bool.{Bool, true, false, not, cond, _&&_, _||_}
+use mathlib.Core.Bool.{Bool, not, cond, _&&_, _||_}
 use mathlib.Core.List.{List, [], _∷_}
 use lib.Dec.{eqb, ltb}
-use Rattle.base_queue.specs.Tables.{one}
 use Rattle.spec_kernel.specs.declared.records.Thread.{Thread}
 use Rattle.spec_kernel.specs.declared.records.Semaphore.{Semaphore}
 use Rattle.spec_kernel.specs.declared.records.Event.{Event}
@@ -13,7 +12,7 @@ use Rattle.spec_kernel.specs.declared.records.Kernel.{Kernel}
 use Rattle.spec_kernel.specs.Conditions.{isReady}
 use Rattle.spec_calls.specs.declared.call.Call.{Call}
 use Rattle.spec_refusals.specs.Refusals.{is, isOneOf}
-use Rattle.spec_notes.specs.Rows.{conditionData, wakeCode, semaphoreRow, eventRow, messageRow, schedulerRow}
+use Rattle.spec_notes.specs.Rows.{conditionData, wakeCode, eventRow, schedulerRow}
 
 -- the thread slept or waited, of its code
 abbrev pub wasBlocked : ℕ → Bool

@@ -1,8 +1,8 @@
 -- The five sections of a note.
 use Prim.Native.Nat.{ℕ, zero, suc, _+_}
-use mathlib.Core.Bool.{Bool, true, false, not, cond, _&&_, _||_}
+use mathlib.Core.Bool.{Bool, cond}
 use mathlib.Core.List.{List, [], _∷_, _++_}
-use lib.Dec.{eqb, ltb}
+use lib.Dec.{eqb}
 use Rattle.base_queue.specs.Tables.{oldPlace}
 use Rattle.base_queue.specs.Queues.{items}
 use Rattle.base_rows.specs.Rows.{flagsOf, bodyOf}
@@ -13,7 +13,6 @@ use Rattle.spec_kernel.specs.declared.records.Message.{Message}
 use Rattle.spec_kernel.specs.declared.records.Kernel.{Kernel}
 use Rattle.spec_kernel.specs.Records.{thread, semaphore, event, message}
 use Rattle.spec_calls.specs.declared.call.Call.{Call}
-use Rattle.spec_refusals.specs.Refusals.{is, isOneOf}
 use Rattle.spec_notes.specs.Rows.{threadCode, threadRow, threadWidths, semaphoreRow, semaphoreWidths}
 use Rattle.spec_notes.specs.Rows.{eventRow, eventWidths, messageRow, messageWidths, schedulerRow, schedulerWidths}
 use Rattle.spec_notes.specs.Touched.{touchedThread, touchedSemaphore, touchedEvent, touchedMessage}

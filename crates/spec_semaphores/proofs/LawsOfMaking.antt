@@ -10,7 +10,7 @@ use Rattle.spec_kernel.specs.declared.records.Kernel.{Kernel}
 use Rattle.spec_kernel.specs.Records.{semaphore, noSemaphore}
 use Rattle.spec_kernel.specs.Free.{freeSemaphore}
 use Rattle.spec_calls.specs.declared.call.Call.{Call}
-use Rattle.spec_moves.specs.States.{withSemaphore, asWord}
+use Rattle.spec_moves.specs.States.{withSemaphore}
 use Rattle.spec_kernel.specs.WordsOfLaws.{pulsing, OnlySemaphore}
 use Rattle.spec_semaphores.specs.Semaphores.{createSemaphore, destroySemaphore, makePeriodic, removePeriodic}
 use Rattle.spec_semaphores.proofs.LawsOfSemaphores.{semaphore-only}

@@ -22,7 +22,6 @@ use Rattle.spec_kernel.specs.Conditions.{isReady, readyFor}
 use Rattle.spec_kernel.specs.Places.{nowhere, homeFor, homeOf, hasHome, rankOf, isQueued}
 use Rattle.spec_moves.specs.Moves.{threadIn, relocate}
 use Rattle.spec_moves.specs.Standing.{atHomeIn, messageIn, Standing, Filed}
-use Rattle.spec_moves.proofs.Joins.{past-end}
 use Rattle.spec_moves.proofs.Rejoined.{Table, table-joins}
 use Rattle.spec_moves.proofs.Threads.{ready-home, relocate-standing, relocate-same, relocate-joins, relocate-time-order}
 use Rattle.spec_moves.specs.States.{moveThread}

@@ -1,7 +1,7 @@
 -- Threads: blocking and waking, create and destroy, priorities, yield and sleep.
 use Prim.Native.Nat.{ℕ}
-use mathlib.Core.Bool.{Bool, true, false, not, cond, _&&_}
-use mathlib.Core.List.{List, map}
+use mathlib.Core.Bool.{Bool, true, not, cond, _&&_}
+use mathlib.Core.List.{map}
 use lib.Dec.{eqb}
 use Rattle.base_queue.specs.Lists.{keep}
 use Rattle.base_queue.specs.Queues.{items, pack}

@@ -8,7 +8,7 @@ use Rattle.base_queue.specs.Lists.{firstOf}
 use Rattle.spec_kernel.specs.declared.records.Kernel.{Kernel}
 use Rattle.base_bytes.specs.Bytes.{begins}
 use Rattle.spec_notes.specs.Frames.{framesOf, sectionsIn}
-use Rattle.code_notes_back.specs.Meant.{recordOf}
+use Rattle.code_notes_frame.specs.Meant.{recordOf}
 use Rattle.spec_answers.specs.declared.Answer.{Answer}
 use Rattle.spec_answers.specs.declared.Logged.{Logged}
 use Rattle.spec_answers.specs.Steps.{answer}

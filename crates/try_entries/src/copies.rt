@@ -6,7 +6,8 @@ use base_bytes::pens;
 
 // What stands between two places of one is copied to the other; whether both are the same then.
 pub fn copied(target: &mut [u8], source: &[u8], from: usize, to: usize) -> bool
-    ensures { λ r. ⌜ (now (target .exit) ≡ copiedTo (now (target .entry)) (now (source .entry)) from to) × (r ≡ areSame (now (target .entry)) (now (source .entry)) from to) ⌝ }
+    ensures { λ r. ⌜ (now (target .exit) ≡ copiedTo (now (target .entry)) (now (source .entry)) from to)
+        × (r ≡ areSame (now (target .entry)) (now (source .entry)) from to) ⌝ }
 {
     if to < from {
         return false;

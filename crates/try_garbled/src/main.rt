@@ -25,7 +25,7 @@
 use base_bytes::bytes::byte_at;
 use base_bytes::bytes::same_bytes;
 use base_bytes::pens;
-use code_notes_back::last;
+use code_notes_frame::last;
 use replay::logs;
 use spec_answers::Logged;
 use spec_kernel::records::Kernel;

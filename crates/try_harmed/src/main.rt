@@ -18,7 +18,7 @@
 // has all wrong ones; it must be 0. How many are broken, refused or accepted depends on what was drawn.
 mod damage;
 
-use code_notes_back::last;
+use code_notes_frame::last;
 use replay::logs;
 use replay::undos;
 use spec_answers::Logged;

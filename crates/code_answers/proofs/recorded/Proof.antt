@@ -1,22 +1,27 @@
+-- `code_answers::recorded` meets its contract: the sections one behind the other are the note, and what the writer leaves is the log.
 use Prim.Native.Nat.{ℕ, _≤_, _<_}
 use mathlib.Core.Path.{_≡_, sym, ap, _∙_}
+use mathlib.Core.List.{List}
 use native.Mathlib.Omega.{arith}
 use lib.ListN.{length, take, replicate, length-map, length-replicate}
 use lib.Seq.{length-take-le}
 use borrow.Author.Needs.{needs}
 use Rattle.base_bytes.specs.Pens.{pen, puts}
 use Rattle.base_bytes.specs.Logs.{noted, ends}
+use Rattle.spec_kernel.specs.declared.records.Kernel.{Kernel}
 use Rattle.spec_calls.specs.declared.call.Call.{Call}
 use Rattle.spec_calls.specs.Calls.{callOf}
 use Rattle.spec_refusals.specs.Refusals.{numberOf}
-use Rattle.code_calls.specs.Named.{namedBy}
+use Rattle.code_calls.specs.declared.named.Named.{Named}
 use Rattle.code_notes.specs.Spans.{frontIn, noteIn}
-use Rattle.code_notes.proofs.BeforeLength.{sections-put, note-closed, note-short}
+use Rattle.code_notes.proofs.BeforeLength.{note-closed, note-short}
 use Rattle.code_notes.proofs.Sizes.{composed}
-use Rattle.code_notes.proofs.Waiters.{waiter-found}
+use Rattle.spec_answers.specs.declared.Answer.{Answer}
 use Rattle.spec_answers.specs.Steps.{nextState}
+use Rattle.spec_answers.specs.Logs.{logged}
 use Rattle.code_answers.proofs.Numbers.{number-by, value-by}
 use Rattle.code_answers.proofs.Recording.{ends-refused, Left, left}
+use Rattle.code_answers.proofs.Sections.{one-by-one}
 use Rattle.code_answers.proofs.recorded.Statement.{statement}
 use Rattle.code_answers.proofs.recorded.Tie as tie
 
@@ -33,8 +38,8 @@ refused-requires : tie.Need-refused-requires
 refused-requires c κs = search needs
 
 -- the call's number, by the bytes
-number : (c : tie.After-number-of) → let a =
-    c .before .before .before .before .args in c .number-of .result ≡ numberOf (a .k) (callOf (a .bytes))
+number : (c : tie.After-number-of)
+    → let a = c .before .before .before .before .args in c .number-of .result ≡ numberOf (a .k) (callOf (a .bytes))
 number c =
     let s = c .before .before .before .before in
     let k = s .args .k in
@@ -82,27 +87,46 @@ slice-aggregate-put-message-part c = search needs
 put-message-part-requires : tie.Need-put-message-part-requires
 put-message-part-requires c κs = search needs
 
+-- ---- the steps before a step, by their names
+abbrev events-of : tie.After-put-message-part → tie.After-put-event-part
+events-of c = c .before .before .before
+
+abbrev semaphores-of : tie.After-put-message-part → tie.After-put-semaphore-part
+semaphores-of c = events-of c .before .before .before
+
+abbrev threads-of : tie.After-put-message-part → tie.After-put-thread-part
+threads-of c = semaphores-of c .before .before .before
+
+abbrev start-of : tie.After-put-message-part → tie.After-put-start
+start-of c = threads-of c .before .before .before
+
+abbrev next-of : tie.After-put-message-part → tie.After-next-state
+next-of c = start-of c .before .before
+
+abbrev number-of : tie.After-put-message-part → tie.After-number-of
+number-of c = next-of c .before .before
+
+-- ---- and what they gave
+abbrev kernel : tie.After-put-message-part → Kernel
+kernel c = number-of c .before .before .before .before .args .k
+
+abbrev record-bytes : tie.After-put-message-part → List ℕ
+record-bytes c = number-of c .before .before .before .before .args .bytes
+
+abbrev named : tie.After-put-message-part → Named
+named c = number-of c .before .named-by .result
+
+abbrev next : tie.After-put-message-part → Kernel
+next c = next-of c .next-state .result
+
 -- the record and the sections, one behind the other
-fronted : (c : tie.After-put-message-part) → let a =
-    c .before .before .before .before .before .before .before .before .before .before .before .before .before .before .before .before .before .before .before .before .args in
-    pen (c .put-message-part .last .0) (c .put-message-part .result)
-    ≡ puts (pen (replicate 2048 0) 0)
-    (frontIn (a .k) (a .bytes)
-    (c .before .before .before .before .before .before .before .before .before .before .before .before .before .before .next-state .result)
-    (c .before .before .before .before .before .before .before .before .before .before .before .before .before .before .before .before .before .named-by .result .found))
-fronted c =
-    let a =
-    c .before .before .before .before .before .before .before .before .before .before .before .before .before .before .before .before .before .before .before .before .args in
-    let named : c .before .before .before .before .before .before .before .before .before .before .before .before .before .before .before .before .before .named-by .result ≡ namedBy (a .k) (callOf (a .bytes)) = c .before .before .before .before .before .before .before .before .before .before .before .before .before .before .before .before .before .named-by .ensures ∙ ap (namedBy (a .k)) (c .before .before .before .before .before .before .before .before .before .before .before .before .before .before .before .before .before .before .call-of .ensures) in
-    rw (
-      c .put-message-part .ensures,
-      c .before .before .before .put-event-part .ensures,
-      c .before .before .before .before .before .before .put-semaphore-part .ensures,
-      c .before .before .before .before .before .before .before .before .before .put-thread-part .ensures,
-      c .before .before .before .before .before .before .before .before .before .before .before .before .put-start .ensures,
-      c .before .before .before .before .before .before .before .before .before .before .before .before .before .before .before .before .before .before .call-of .ensures,
-    )
-    (sections-put _ (a .k) (a .bytes) _ _ _ (waiter-found (a .k) (callOf (a .bytes)) _ _ _ named))
+sections : (c : tie.After-put-message-part)
+    → pen (c .put-message-part .last .0) (c .put-message-part .result)
+    ≡ puts (pen (replicate 2048 0) 0) (frontIn (kernel c) (record-bytes c) (next c) (named c .found))
+sections c =
+    one-by-one (kernel c) (next c) (record-bytes c) _ (named c) _ _ _ _ _ _ (number-of c .before .before .call-of .ensures)
+    (number-of c .before .named-by .ensures) (start-of c .put-start .ensures) (threads-of c .put-thread-part .ensures)
+    (semaphores-of c .put-semaphore-part .ensures) (events-of c .put-event-part .ensures) (c .put-message-part .ensures)
 
 slice-aggregate-put-end : tie.Need-slice-aggregate-put-end
 slice-aggregate-put-end c = search needs
@@ -110,28 +134,21 @@ slice-aggregate-put-end c = search needs
 put-end-requires : tie.Need-put-end-requires
 put-end-requires c κs = search needs
 
+abbrev messages-of : tie.After-put-end → tie.After-put-message-part
+messages-of c = c .before .before .before
+
 -- what the buffer holds then is the note
-composed-note : (c : tie.After-put-end) → let a =
-    c .before .before .before .before .before .before .before .before .before .before .before .before .before .before .before .before .before .before .before .before .before .before .before .args in
+composed-note : (c : tie.After-put-end)
+    → let m = messages-of c in
     (c .put-end .result ≤ length (c .put-end .last .0))
-    × (take (c .put-end .result) (c .put-end .last .0) ≡ noteIn (a .k) (a .bytes)
-    (c .before .before .before .before .before .before .before .before .before .before .before .before .before .before .before .before .before .next-state .result) (c .before .before .before .before .before .before .before .before .before .before .before .before .before .before .before .before .before .before .before .before .named-by .result .found))
+    × (take (c .put-end .result) (c .put-end .last .0) ≡ noteIn (kernel m) (record-bytes m) (next m) (named m .found))
 composed-note c =
-    let s =
-    c .before .before .before .before .before .before .before .before .before .before .before .before .before .before .before .before .before .before .before .before .before .before .before in
-    let k = s .args .k in
-    let bytes = s .args .bytes in
-    let sixteen : length bytes ≡ 16 = s .good .1 .0 .1 .0 .1 in
+    let m = messages-of c in
+    let sixteen : length (record-bytes m) ≡ 16 = number-of m .before .before .before .before .good .1 .0 .1 .0 .1 in
     let room : 2048 ≤ length {A = ℕ} (replicate 2048 0) = rw length-replicate (omega arith) in
-    let e = note-closed (replicate 2048 0) _ _ k bytes _ _ _ sixteen room (fronted (c .before .before .before)) (c .put-end .ensures) in
-    let w =
-    composed (replicate 2048 0) _ _ _ e
-    (rw length-replicate
-    (omega (
-      arith,
-      note-short k bytes
-          (c .before .before .before .before .before .before .before .before .before .before .before .before .before .before .before .before .before .next-state .result) (c .before .before .before .before .before .before .before .before .before .before .before .before .before .before .before .before .before .before .before .before .named-by .result .found) sixteen,
-    ))) in
+    let e = note-closed (replicate 2048 0) _ _ (kernel m) (record-bytes m) _ _ _ sixteen room (sections m) (c .put-end .ensures) in
+    let short = note-short (kernel m) (record-bytes m) (next m) (named m .found) sixteen in
+    let w = composed (replicate 2048 0) _ _ _ e (rw length-replicate (omega (arith, short))) in
     (w .0, w .1)
 
 array-share-prefix-buffer : tie.Need-array-share-prefix-buffer
@@ -143,45 +160,55 @@ slice-aggregate-write c = sym (length-take-le _ _ (composed-note (c .before .bef
 write-requires : tie.Need-write-requires
 write-requires c κs = search needs
 
+abbrev end-of : tie.After-write → tie.After-put-end
+end-of c = c .before .before .before .before
+
 -- what the writer leaves, by the bytes
-written : (c : tie.After-write) → let a =
-    c .before .before .before .before .before .before .before .before .before .before .before .before .before .before .before .before .before .before .before .before .before .before .before .before .before .before .before .args in
-    Left (a .k) (a .bytes) (a .log .now) (c .write .last .0) (a .used) (c .write .result)
-    (c .before .before .before .before .before .before .before .before .before .before .before .before .before .before .before .before .before .before .before .before .before .before .before .before .named-by .result .found) (c .before .before .before .before .before .before .before .before .before .before .before .before .before .before .before .before .before .before .before .before .before .next-state .result)
+written : (c : tie.After-write)
+    → let m = messages-of (end-of c) in
+    let a = number-of m .before .before .before .before .args in
+    Left (kernel m) (record-bytes m) (a .log .now) (c .write .last .0) (a .used) (c .write .result) (named m .found) (next m)
 written c =
-    let s =
-    c .before .before .before .before .before .before .before .before .before .before .before .before .before .before .before .before .before .before .before .before .before .before .before .before .before .before .before in
-    let k = s .args .k in
-    let x : c .before .before .before .before .before .before .before .before .before .before .before .before .before .before .before .before .before .before .before .before .before .before .before .before .before .call-of .result ≡ callOf (s .args .bytes) = c .before .before .before .before .before .before .before .before .before .before .before .before .before .before .before .before .before .before .before .before .before .before .before .before .before .call-of .ensures in
-    let sixteen : length (s .args .bytes) ≡ 16 = s .good .1 .0 .1 .0 .1 in
+    let m = messages-of (end-of c) in
+    let s = number-of m .before .before .before .before in
+    let k = kernel m in
+    let bytes = record-bytes m in
+    let x = number-of m .before .before .call-of .ensures in
+    let sixteen : length bytes ≡ 16 = s .good .1 .0 .1 .0 .1 in
     let all : length (k .threads) ≡ 32 = sym (length-map (k .threads) _) ∙ s .good .0 .1 .1 .0 .1 .0 .1 in
-    let n =
-    noteIn k (s .args .bytes)
-    (c .before .before .before .before .before .before .before .before .before .before .before .before .before .before .before .before .before .before .before .before .before .next-state .result) (c .before .before .before .before .before .before .before .before .before .before .before .before .before .before .before .before .before .before .before .before .before .before .before .before .named-by .result .found) in
+    let n = noteIn k bytes (next m) (named m .found) in
     let w : (c .write .last .0 ≡ noted (s .args .log .now) (s .args .used) n)
     × (c .write .result ≡ ends (s .args .log .now) (s .args .used) n) =
-    rw (← composed-note (c .before .before .before .before) .1) (c .write .ensures) in
-    left k (s .args .bytes) (s .args .log .now) _ (s .args .used) _ _ _ sixteen all
-    (sym (number (c .before .before .before .before .before .before .before .before .before .before .before .before .before .before .before .before .before .before .before .before .before .before .before)) ∙ c .before .before .before .before .before .before .before .before .before .before .before .before .before .before .before .before .before .before .before .before .before .before .if1 .left)
-    (value-by k _ (callOf (s .args .bytes)) _
-    (c .before .before .before .before .before .before .before .before .before .before .before .before .before .before .before .before .before .before .before .before .before .before .before .before .named-by .ensures) x) (c .before .before .before .before .before .before .before .before .before .before .before .before .before .before .before .before .before .before .before .before .before .next-state .ensures ∙ ap (λ (y : Call). nextState k y) x) w
+    rw (← composed-note (end-of c) .1) (c .write .ensures) in
+    left k bytes (s .args .log .now) _ (s .args .used) _ _ _ sixteen all (sym (number (number-of m)) ∙ next-of m .before .if1 .left)
+    (value-by k _ (callOf bytes) _ (number-of m .before .named-by .ensures) x)
+    (next-of m .next-state .ensures ∙ ap (λ (y : Call). nextState k y) x) w
 
-refused-requires-2 : tie.Need-refused-requires-2
-refused-requires-2 c κs = search needs
+given-requires : tie.Need-given-requires
+given-requires c κs = search needs
 
 same-length : tie.Need-same-length
 same-length c = search needs
 
 returns-2 : tie.Need-returns-2
 returns-2 c =
-    let l = written (c .before .before .before .before) in
-    (c .refused2 .ensures ∙ l .no-room (c .before .if2 .taken), l .log-after)
+    let w : tie.After-write = c .before .before .before .before in
+    let m = messages-of (end-of w) in
+    let l = written w in (
+      ap (λ (x : Answer). logged x (kernel m) (number-of m .before .before .before .before .args .used)) (c .before .given .ensures) ∙ l .no-room (c .if2 .taken),
+      l .log-after,
+    )
 
 same-length-2 : tie.Need-same-length-2
 same-length-2 c = search needs
 
 returns-3 : tie.Need-returns-3
-returns-3 c = let l = written (c .before .before .before) in (l .with-room (c .if2 .left), l .log-after)
+returns-3 c =
+    let w : tie.After-write = c .before .before .before .before in
+    let l = written w in (
+      ap (λ (x : Answer). logged x (next (messages-of (end-of w))) (w .write .result)) (c .before .given .ensures) ∙ l .with-room (c .if2 .left),
+      l .log-after,
+    )
 
 pub recorded-spec : {M : Type 1} → statement M
 recorded-spec =
@@ -208,7 +235,7 @@ recorded-spec =
     array-share-prefix-buffer
     slice-aggregate-write
     write-requires
-    refused-requires-2
+    given-requires
     same-length
     returns-2
     same-length-2

@@ -1,5 +1,5 @@
 -- `code_time::tick` meets its contract: time passes, the periodic semaphores come after it, and the uptime changes nothing in either.
-use mathlib.Core.Path.{_≡_, ap, _∙_}
+use mathlib.Core.Path.{ap, _∙_}
 use borrow.Author.Needs.{needs}
 use Rattle.spec_moves.specs.declared.parts.Threads.{Threads}
 use Rattle.spec_moves.specs.States.{withThreads, withUptime}

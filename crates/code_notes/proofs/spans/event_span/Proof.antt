@@ -1,5 +1,4 @@
 -- `code_notes::spans::event_span` meets its contract: the tests stand in the order of the definition.
-use mathlib.Core.Path.{_≡_, sym, _∙_}
 use borrow.Author.Tests.{ne-eqb}
 use Rattle.code_notes.specs.Spans.{eventSpan}
 use borrow.Author.Needs.{needs}

@@ -1,5 +1,5 @@
 -- `code_notes::spans::thread_span` meets its contract: the tests stand in the order of the definition.
-use mathlib.Core.Path.{_≡_, sym, _∙_}
+use mathlib.Core.Path.{sym, _∙_}
 use borrow.Author.Tests.{ne-eqb}
 use Rattle.code_notes.specs.Spans.{threadSpan}
 use borrow.Author.Needs.{needs}

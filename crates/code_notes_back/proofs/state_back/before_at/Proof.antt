@@ -1,5 +1,5 @@
 -- `code_notes_back::state_back::before_at` meets its contract, field by field.
-use Rattle.code_notes_back.specs.Meant.{sectionsMeant}
+use Rattle.code_notes_frame.specs.Meant.{sectionsMeant}
 use Rattle.code_notes_back.specs.Restored.{beforeAt}
 use borrow.Author.Needs.{needs}
 use Rattle.code_notes_back.proofs.state_back.before_at.Statement.{statement}

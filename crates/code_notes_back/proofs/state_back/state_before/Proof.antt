@@ -5,7 +5,7 @@ use mathlib.Core.List.{List}
 use native.Mathlib.Nat.{mod-eq-of-lt}
 use native.Mathlib.Omega.{arith}
 use lib.ListN.{getD}
-use Rattle.code_notes_back.specs.Meant.{sectionsMeant}
+use Rattle.code_notes_frame.specs.Meant.{sectionsMeant}
 use Rattle.code_notes_back.proofs.Restoring.{levelsOf, back-fits, back-first, back-second}
 use borrow.Author.Needs.{needs}
 use Rattle.code_notes_back.proofs.state_back.state_before.Statement.{statement}

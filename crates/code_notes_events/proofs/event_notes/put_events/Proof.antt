@@ -3,7 +3,7 @@ use mathlib.Core.Bool.{not}
 use Rattle.spec_kernel.specs.Records.{noEvent}
 use Rattle.spec_notes.specs.Touched.{sameEvent}
 use Rattle.code_notes_events.specs.EventEntries.{eventEntries}
-use Prim.Native.Nat.{_≤_, _<_}
+use Prim.Native.Nat.{_<_}
 use mathlib.Core.Path.{_≡_, sym, _∙_}
 use native.Mathlib.Omega.{arith}
 use lib.ListN.{length}

@@ -3,7 +3,7 @@ use mathlib.Core.Bool.{not}
 use Rattle.spec_kernel.specs.Records.{noMessage}
 use Rattle.spec_notes.specs.Touched.{sameMessage}
 use Rattle.code_notes_messages.specs.MessageEntries.{messageEntries}
-use Prim.Native.Nat.{_≤_, _<_}
+use Prim.Native.Nat.{_<_}
 use mathlib.Core.Path.{_≡_, refl, sym, _∙_}
 use native.Mathlib.Omega.{arith}
 use lib.ListN.{length, length-map}

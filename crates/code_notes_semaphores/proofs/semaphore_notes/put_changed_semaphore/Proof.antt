@@ -1,5 +1,5 @@
 -- `code_notes_semaphores::semaphore_notes::put_changed_semaphore` meets its contract: a semaphore that only aged is passed over.
-use mathlib.Core.Path.{_≡_, sym, _∙_}
+use mathlib.Core.Path.{sym, _∙_}
 use Rattle.base_bytes.specs.Pens.{puts}
 use borrow.Author.Needs.{needs}
 use Rattle.code_notes_semaphores.proofs.semaphore_notes.put_changed_semaphore.Statement.{statement}

@@ -2,7 +2,7 @@
 use Rattle.spec_kernel.specs.Records.{noSemaphore}
 use Rattle.spec_notes.specs.Touched.{changedSemaphore}
 use Rattle.code_notes_semaphores.specs.SemaphoreEntries.{semaphoreEntries}
-use Prim.Native.Nat.{_≤_, _<_}
+use Prim.Native.Nat.{_<_}
 use mathlib.Core.Path.{_≡_, sym, _∙_}
 use native.Mathlib.Omega.{arith}
 use lib.ListN.{length}

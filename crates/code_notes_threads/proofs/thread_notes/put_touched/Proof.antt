@@ -1,5 +1,5 @@
 -- `code_notes_threads::thread_notes::put_touched` meets its contract: who is touched has an entry, of its records and its old places.
-use mathlib.Core.Path.{_≡_, sym, _∙_}
+use mathlib.Core.Path.{sym, _∙_}
 use borrow.Author.Needs.{needs}
 use borrow.Author.Tests.{lt-ltb, le-ltb, not-true, not-false}
 use Rattle.base_bytes.specs.Pens.{puts}

@@ -5,9 +5,11 @@ use mathlib.Core.Bool.{true, false≢true}
 use mathlib.Core.List.{List, [], _∷_}
 use native.Mathlib.Omega.{arith}
 use lib.ListN.{length, length-map}
-use borrow.Author.Tests.{eq-eqb}
+use lib.Seq.{set-getD}
+use borrow.Author.Tests.{eq-eqb, ne-eqb}
 use borrow.Author.Needs.{needs}
 use Rattle.base_queue.specs.Lists.{isEmpty}
+use Rattle.spec_kernel.specs.Records.{noSemaphore}
 use Rattle.spec_kernel.specs.Places.{semaphoreQueue}
 use Rattle.code_kernel_find.proofs.OfHomes.{first-empty, first-head}
 use Rattle.spec_threads.specs.Threads.{wake}
@@ -29,8 +31,8 @@ first-at-home-requires c κs = search needs
 semaphore-at-requires : tie.Need-semaphore-at-requires
 semaphore-at-requires c κs = search needs
 
-raised-requires : tie.Need-raised-requires
-raised-requires c κs = search needs
+counted-requires : tie.Need-counted-requires
+counted-requires c κs = search needs
 
 stored-requires : tie.Need-stored-requires
 stored-requires c κs = search needs
@@ -43,8 +45,14 @@ returns c k =
     let f = c .before .before .before .before .first-at-home .ensures in
     let e : length (p .records) ≡ 32 = sym (length-map (p .records) _) ∙ s .good .0 .1 .1 .0 .1 .1 .0 .1 .0 .1 in
     let z : semaphoreQueue (withWaiting (s .args .w) k) (s .args .i) ≡ [] =
-    empty _ (sym (first-empty (p .records) e (p .places) (omega arith)) ∙ eq-eqb _ _ (sym f ∙ c .before .before .before .if1 .taken)) in
-    rw (z, c .stored .ensures, c .before .raised .ensures, c .before .before .semaphore-at .ensures)
+    empty _ (sym (first-empty (p .records) e (p .places) (omega arith)) ∙ eq-eqb _ _ (sym f ∙ c .if1 .taken)) in
+    rw (
+      z,
+      c .before .stored .ensures,
+      c .before .before .counted .ensures,
+      c .before .before .before .semaphore-at .ensures,
+      eq-eqb _ _ (c .if1 .taken),
+    )
 
 woken-requires : tie.Need-woken-requires
 woken-requires c κs = search needs
@@ -52,9 +60,19 @@ woken-requires c κs = search needs
 returns-2 : tie.Need-returns-2
 unfolding post wake
 returns-2 c k =
-    let p = c .before .before .before .before .before .before .before .args .w .threads in
-    let f = c .before .before .first-at-home .ensures in
-    rw (first-head (p .records) (p .places) _ (λ z. c .before .if1 .left (f ∙ z)), c .woken .ensures, f)
+    let w = c .before .before .before .before .before .before .before .before .before .before .before .args .w in
+    let p = w .threads in
+    let f = c .before .before .before .before .before .before .first-at-home .ensures in
+    rw (
+      first-head (p .records) (p .places) _ (λ z. c .before .before .if1 .left (f ∙ z)),
+      c .woken .ensures,
+      c .before .before .before .stored .ensures,
+      c .before .before .before .before .counted .ensures,
+      c .before .before .before .before .before .semaphore-at .ensures,
+      ne-eqb _ _ (c .before .before .if1 .left),
+      set-getD (w .semaphores) _ noSemaphore,
+      f,
+    )
 
 pub post-spec : {M : Type 1} → statement M
 post-spec =
@@ -63,7 +81,7 @@ post-spec =
     add-first-at-home
     first-at-home-requires
     semaphore-at-requires
-    raised-requires
+    counted-requires
     stored-requires
     returns
     woken-requires

@@ -5,7 +5,7 @@ use Rattle.spec_rules.specs.Tests.{keepsRules}
 use Rattle.spec_notes.specs.Undo.{hasLast}
 use Rattle.spec_notes.specs.Undoes.{undoes}
 use Rattle.spec_answers.specs.Logs.{undone}
-use Rattle.replay.proofs.Again.{last-within, undone-part}
+use Rattle.code_answers_undo.proofs.Again.{last-within, undone-part}
 use borrow.Author.Needs.{needs}
 use Rattle.replay.proofs.undos.undo.Statement.{statement}
 use Rattle.replay.proofs.undos.undo.Tie as tie

@@ -10,8 +10,8 @@ use borrow.Author.Tests.{ne-eqb}
 use Rattle.base_queue.specs.Lists.{firstOf}
 use Rattle.spec_notes.specs.Frames.{nothing, sections, framesOf}
 use Rattle.spec_notes.specs.Back.{Sections}
-use Rattle.code_notes_back.specs.declared.frames.Decoded.{Decoded}
-use Rattle.code_notes_back.specs.Meant.{partOf, sectionsMeant, meant}
+use Rattle.code_notes_frame.specs.declared.frames.Decoded.{Decoded}
+use Rattle.code_notes_frame.specs.Meant.{partOf, sectionsMeant, meant}
 use Rattle.try_entries.specs.Entries.{valueIn}
 use borrow.Author.Needs.{needs}
 use Rattle.try_entries.proofs.again.value_in.Statement.{statement}

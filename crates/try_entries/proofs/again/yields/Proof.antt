@@ -1,5 +1,4 @@
 -- `try_entries::again::yields` meets its contract: what came back, and then the bytes of the note.
-use mathlib.Core.Path.{_≡_, sym, ap, _∙_}
 use Rattle.code_rules_records.proofs.Answers.{refused, passed}
 use Rattle.try_entries.specs.Entries.{yieldsNote}
 use borrow.Author.Needs.{needs}

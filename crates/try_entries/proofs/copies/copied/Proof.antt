@@ -1,5 +1,5 @@
 -- `try_entries::copies::copied` meets its contract: by where the two places lie.
-use mathlib.Core.Path.{_≡_, ap}
+use mathlib.Core.Path.{ap}
 use native.Mathlib.Omega.{arith}
 use lib.ListN.{length}
 use borrow.Author.Tests.{lt-ltb, le-ltb}

@@ -1,0 +1,182 @@
+-- The branches of the undo, each from what its tests have found.
+use Prim.Native.Nat.{ℕ, _+_, _-_, _≤_}
+use mathlib.Core.Path.{_≡_, refl, sym, ap, _∙_}
+use mathlib.Core.Bool.{true, false, cond, and-true, and-eq-true-iff, false≢true}
+use mathlib.Core.List.{List, [], _++_}
+use native.Mathlib.Omega.{arith}
+use lib.Dec.{eqb, ltb}
+use lib.ListN.{length, take, drop, replicate, length-append, length-replicate, drop-of-length-le}
+use lib.Seq.{take-at}
+use borrow.Author.Tests.{eqb-true, eq-eqb, le-leb, ltb-true, ltb-false, leb-true}
+use borrow.Table.Steps.{cases}
+use Rattle.base_bytes.specs.Bytes.{un}
+use Rattle.base_bytes.proofs.Appending.{noted-room}
+use Rattle.spec_kernel.specs.declared.records.Kernel.{Kernel}
+use Rattle.spec_rules.specs.Tests.{keepsRules}
+use Rattle.spec_calls.specs.declared.call.Call.{Call}
+use Rattle.spec_calls.specs.Calls.{callOf}
+use Rattle.spec_refusals.specs.Refusals.{numberOf}
+use Rattle.spec_effects.specs.Effects.{valueOf}
+use Rattle.spec_notes.specs.Touched.{sameRow}
+use Rattle.spec_notes.specs.Same.{sameKernel}
+use Rattle.spec_notes.specs.Back.{Sections, stateBefore}
+use Rattle.spec_notes.specs.Frames.{nothing, sections, isWhole, framesFrom, framesOf}
+use Rattle.spec_notes.specs.Undo.{lastLength, hasLast, lastNote}
+use Rattle.spec_notes.specs.Undoes.{callBytes, backFrom, isDecoded, levelsFit, yieldsAgain, undoesNote, undoes}
+use Rattle.code_notes.proofs.SpansOfCalls.{note-in}
+use Rattle.code_notes.proofs.BeforeLength.{note-short}
+use Rattle.code_notes_back.specs.declared.state_back.Back.{Back}
+use Rattle.code_notes_back.specs.Restored.{backOf}
+use Rattle.spec_answers.specs.declared.Logged.{Logged}
+use Rattle.spec_answers.specs.Steps.{answer}
+use Rattle.spec_answers.specs.Logs.{logged, stateAfter, noteFor, recorded, logAfter, undone}
+
+-- The call run again on a log of 2,048 bytes, which has room for any note: s is what comes back.
+module _ (k : Kernel) (bytes : List ℕ) (sixteen : length bytes ≡ 16) (all : length (k .threads) ≡ 32) (s : Logged)
+    (e : s ≡ recorded k bytes (replicate 2048 0) 0) where
+  room-for-any : numberOf k (callOf bytes) ≡ 0 → 0 + length (noteFor k bytes) ≤ length {A = ℕ} (replicate 2048 0)
+  unfolding noteFor
+  room-for-any n =
+      rw (length-replicate, ← note-in k bytes all n)
+      (omega (arith, note-short k bytes (stateAfter k bytes) (valueOf k (callOf bytes)) sixteen))
+
+  pub run-refused : (s .answer .number ≡ 0 → ⊥) → eqb (numberOf k (callOf bytes)) 0 ≡ false
+  unfolding recorded
+  run-refused h =
+      cases (eqb (numberOf k (callOf bytes)) 0)
+      (λ z. let fits = le-leb _ _ (room-for-any (eqb-true (numberOf k (callOf bytes)) 0 z)) in
+      absurd (h (ap (λ (x : Logged). x .answer .number) e ∙ rw (z, fits)))) (λ z. z)
+
+  module _ (z : s .answer .number ≡ 0) where
+    pub run-accepted : (numberOf k (callOf bytes) ≡ 0) ×
+        (s ≡ logged (answer 0 (valueOf k (callOf bytes)) (stateAfter k bytes .runner)) (stateAfter k bytes) (0 + length (noteFor k bytes)))
+    unfolding recorded
+    run-accepted =
+        cases (eqb (numberOf k (callOf bytes)) 0)
+        (λ y. let n = eqb-true (numberOf k (callOf bytes)) 0 y in
+        let fits = le-leb _ _ (room-for-any n) in
+        (n, e ∙ rw (y, fits)))
+        (λ y. let n : numberOf k (callOf bytes) ≡ 0 = sym (ap (λ (x : Logged). x .answer .number) e ∙ rw y) ∙ z in
+        absurd (false≢true (sym y ∙ eq-eqb (numberOf k (callOf bytes)) 0 n)))
+
+    pub run-next : s .kernel ≡ stateAfter k bytes
+    run-next = ap (λ (x : Logged). x .kernel) (run-accepted .1)
+
+    -- the note stands at the front of the log
+    pub note-stands : (log : List ℕ) → log ≡ logAfter k bytes (replicate 2048 0) 0
+        → (s .used ≤ length log) × (take (s .used) log ≡ noteFor k bytes) × (s .used ≡ length (noteFor k bytes))
+    unfolding logAfter
+    note-stands log f =
+        let (n, a) = run-accepted in
+        let y = eq-eqb (numberOf k (callOf bytes)) 0 n in
+        let h = room-for-any n in
+        let v : s .used ≡ 0 + length (noteFor k bytes) = ap (λ (x : Logged). x .used) a in
+        let u : s .used ≡ length (noteFor k bytes) = omega (arith, v) in
+        let g : log ≡ noteFor k bytes ++ drop (0 + length (noteFor k bytes)) (replicate 2048 0) =
+        f ∙ rw (y, noted-room (replicate 2048 0) 0 (noteFor k bytes) h) in
+        (rw (g, length-append, u) (omega arith), rw (g, u) (take-at (noteFor k bytes) _ _ refl), u)
+
+module _ (k : Kernel) (bytes : List ℕ) (end : Kernel) (note : List ℕ) where
+  pub levels-pass : levelsFit k ≡ false → yieldsAgain k bytes end note ≡ false
+  unfolding yieldsAgain
+  levels-pass e = rw e
+
+  module _ (l : levelsFit k ≡ true) where
+    pub again-broken : keepsRules k ≡ false → false ≡ yieldsAgain k bytes end note
+    unfolding yieldsAgain
+    again-broken e = rw (l, e)
+
+    module _ (r : keepsRules k ≡ true) where
+      pub again-refused : eqb (numberOf k (callOf bytes)) 0 ≡ false → false ≡ yieldsAgain k bytes end note
+      unfolding yieldsAgain
+      again-refused n = rw (l, r, n)
+
+      module _ (n : numberOf k (callOf bytes) ≡ 0) (next : Kernel) (e : next ≡ stateAfter k bytes) where
+        pub again-other : sameKernel next end ≡ false → false ≡ yieldsAgain k bytes end note
+        unfolding yieldsAgain
+        again-other h =
+            let o : sameKernel (stateAfter k bytes) end ≡ false = ap (λ (u : Kernel). sameKernel u end) (sym e) ∙ h in
+            rw (l, r, n, o)
+
+        pub again-note : sameKernel next end ≡ true → sameRow (noteFor k bytes) note ≡ yieldsAgain k bytes end note
+        unfolding yieldsAgain noteFor
+        again-note h =
+            let o : sameKernel (stateAfter k bytes) end ≡ true = ap (λ (u : Kernel). sameKernel u end) (sym e) ∙ h in
+            rw (l, r, n, o, and-true)
+
+-- ---- the frame
+none-whole : isWhole [] ≡ false
+unfolding isWhole un
+none-whole = refl
+
+module _ (k : Kernel) (note : List ℕ) where
+  pub note-none : framesOf note ≡ nothing → undoesNote k note ≡ false
+  unfolding undoesNote
+  note-none e = rw e
+
+  module _ (x : Sections) (e : framesOf note ≡ sections x) where
+    -- a note that has a frame has its call record
+    pub framed-size : 16 ≤ length note
+    unfolding framesOf framesFrom
+    framed-size =
+        cases (ltb (length note) 16)
+        (λ b. let n : drop 16 note ≡ [] = drop-of-length-le note {i = 16} (omega (arith, ltb-true (length note) 16 b)) in
+        let f : nothing ≡ sections x = rw (n, none-whole) at e in
+        absurd (false≢true (ap isDecoded f))) (λ b. ltb-false (length note) 16 b)
+
+    pub framed-back : backFrom k note ≡ stateBefore (callOf (callBytes note)) k x
+    unfolding backFrom
+    framed-back = rw e
+
+    pub framed-undoes : undoesNote k note ≡ yieldsAgain (stateBefore (callOf (callBytes note)) k x) (callBytes note) k note
+    unfolding undoesNote backFrom
+    framed-undoes = rw e
+
+    -- what comes back of the note, by the two tests of the state before
+    module _ (before used : ℕ) where
+      abbrev old : Kernel
+      old = stateBefore (callOf (callBytes note)) k x
+
+      abbrev left : Logged
+      left =
+          cond (undoesNote k note) (logged (answer 0 255 (backFrom k note .runner)) (backFrom k note) before)
+          (logged (answer 15 255 (k .runner)) k used)
+
+      pub left-other : yieldsAgain old (callBytes note) k note ≡ false → logged (answer 15 255 (k .runner)) k used ≡ left
+      left-other h = rw (framed-undoes, h)
+
+      pub left-unfit : levelsFit old ≡ false → logged (answer 15 255 (k .runner)) k used ≡ left
+      left-unfit h = left-other (levels-pass old (callBytes note) k note h)
+
+      pub left-back : yieldsAgain old (callBytes note) k note ≡ true → logged (answer 0 255 (old .runner)) old before ≡ left
+      left-back h = rw (framed-undoes, h, framed-back)
+
+-- the two fields of what is read back
+pub back-parts : (c : Call) (k : Kernel) (x : Sections) (r : Back) → r ≡ backOf c k x
+    → (r .fits ≡ levelsFit (stateBefore c k x)) × (levelsFit (stateBefore c k x) ≡ true → r .kernel ≡ stateBefore c k x)
+unfolding backOf
+back-parts c k x r e = (ap (λ (b : Back). b .fits) e, λ h. ap (λ (b : Back). b .kernel) e ∙ rw h)
+
+-- ---- the log
+module _ (log : List ℕ) (used : ℕ) (h : hasLast log used ≡ true) where
+  pub last-within : (lastLength log used ≤ used) × (used ≤ length log)
+  unfolding hasLast
+  last-within =
+      let (((_, b), _), d) = simp and-eq-true-iff at h in
+      (leb-true (lastLength log used) used d, leb-true used (length log) b)
+
+  pub last-part : take (used - (used - lastLength log used)) (drop (used - lastLength log used) log) ≡ lastNote log used
+  unfolding lastNote
+  last-part =
+      let (b, _) = last-within in
+      let e : used - (used - lastLength log used) ≡ lastLength log used = omega (arith, b) in
+      rw (h, e)
+
+  -- the note that the code lends is the last one
+  pub undone-part : (k : Kernel) (n : ℕ) → keepsRules k ≡ true → n ≡ lastLength log used
+      → (let note = take (used - (used - n)) (drop (used - n) log) in
+      cond (undoesNote k note) (logged (answer 0 255 (backFrom k note .runner)) (backFrom k note) (used - n))
+      (logged (answer 15 255 (k .runner)) k used))
+      ≡ undone k log used
+  unfolding undone undoes
+  undone-part k n r e = rw (e, last-part, r, h)
