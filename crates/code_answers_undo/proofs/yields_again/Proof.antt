@@ -1,11 +1,14 @@
-use Prim.Native.Nat.{_≤_}
+-- `code_answers_undo::yields_again` meets its contract: each way out says which part of "yields this end state and this note" fails.
+use Prim.Native.Nat.{ℕ, _≤_}
 use mathlib.Core.Path.{_≡_, sym, _∙_}
 use mathlib.Core.Bool.{true}
+use mathlib.Core.List.{List}
 use lib.ListN.{length, take, length-map}
 use lib.Seq.{length-take-le}
 use borrow.Author.Tests.{not-true, not-false}
 use borrow.Author.Needs.{needs}
 use Rattle.base_bytes.specs.Bytes.{begins}
+use Rattle.spec_kernel.specs.declared.records.Kernel.{Kernel}
 use Rattle.spec_rules.specs.Tests.{keepsRules}
 use Rattle.spec_calls.specs.Calls.{callOf}
 use Rattle.spec_refusals.specs.Refusals.{numberOf}
@@ -31,83 +34,97 @@ slice-aggregate-recorded c = search needs
 recorded-requires : tie.Need-recorded-requires
 recorded-requires c κs = search needs
 
-rules : (c : tie.After-recorded) → keepsRules (c .before .before .before .before .before .args .old) ≡ true
+-- what came in, seen from the call that was run again
+abbrev old₀ : tie.After-recorded → Kernel
+old₀ c = c .before .before .before .before .before .args .old
+
+abbrev bytes₀ : tie.After-recorded → List ℕ
+bytes₀ c = c .before .before .before .before .before .args .bytes
+
+abbrev end₀ : tie.After-recorded → Kernel
+end₀ c = c .before .before .before .before .before .args .end
+
+abbrev note₀ : tie.After-recorded → List ℕ
+note₀ c = c .before .before .before .before .before .args .note .now
+
+rules : (c : tie.After-recorded) → keepsRules (old₀ c) ≡ true
 rules c = let t = c .before .before .before .keeps-rules in sym (t .ensures) ∙ not-false (t .result) (c .before .before .if1 .left)
 
-sixteen : (c : tie.After-recorded) → length (c .before .before .before .before .before .args .bytes) ≡ 16
+sixteen : (c : tie.After-recorded) → length (bytes₀ c) ≡ 16
 sixteen c = c .before .before .before .before .before .good .1 .0 .1 .0 .1
 
-all : (c : tie.After-recorded) → length (c .before .before .before .before .before .args .old .threads) ≡ 32
-all c = let s = c .before .before .before .before .before in sym (length-map (s .args .old .threads) _) ∙ s .good .0 .1 .1 .0 .1 .0 .1
+all : (c : tie.After-recorded) → length (old₀ c .threads) ≡ 32
+all c = sym (length-map (old₀ c .threads) _) ∙ c .before .before .before .before .before .good .0 .1 .1 .0 .1 .0 .1
 
 returns-2 : tie.Need-returns-2
 returns-2 c = λ l.
-    let a = c .before .before .before .before .before .before .before .before .args in
-    let d = c .before .before .before in
-    again-refused (a .old) (a .bytes) (a .end) (a .note .now) l (rules d)
-    (run-refused (a .old) (a .bytes) (sixteen d) (all d) _ (d .recorded .ensures .0) (c .if2 .taken))
+    let d : tie.After-recorded = c .before .before .before in
+    again-refused (old₀ d) (bytes₀ d) (end₀ d) (note₀ d) l (rules d)
+    (run-refused (old₀ d) (bytes₀ d) (sixteen d) (all d) _ (d .recorded .ensures .0) (c .if2 .taken))
 
 same-kernel-requires : tie.Need-same-kernel-requires
 same-kernel-requires c κs = search needs
 
 -- where it answers 0: it was accepted, the next state, and that the note stands in front
-ran : (c : tie.After-recorded) → c .recorded .result .answer .number ≡ 0 → let a =
-    c .before .before .before .before .before .args in let l = c .recorded .result in
-    (numberOf (a .old) (callOf (a .bytes)) ≡ 0) × (l .kernel ≡ stateAfter (a .old) (a .bytes))
+ran : (c : tie.After-recorded) → c .recorded .result .answer .number ≡ 0
+    → let l = c .recorded .result in
+    (numberOf (old₀ c) (callOf (bytes₀ c)) ≡ 0) × (l .kernel ≡ stateAfter (old₀ c) (bytes₀ c))
     × (l .used ≤ length (c .recorded .last .1 .1 .0))
-    × (take (l .used) (c .recorded .last .1 .1 .0) ≡ noteFor (a .old) (a .bytes)) × (l .used ≡ length (noteFor (a .old) (a .bytes)))
+    × (take (l .used) (c .recorded .last .1 .1 .0) ≡ noteFor (old₀ c) (bytes₀ c)) × (l .used ≡ length (noteFor (old₀ c) (bytes₀ c)))
 ran c z =
-    let a = c .before .before .before .before .before .args in
     let e = c .recorded .ensures in
-    let (x, y, w) = note-stands (a .old) (a .bytes) (sixteen c) (all c) _ (e .0) z _ (e .1) in (
-      run-accepted (a .old) (a .bytes) (sixteen c) (all c) _ (e .0) z .0,
-      run-next (a .old) (a .bytes) (sixteen c) (all c) _ (e .0) z,
+    let (x, y, w) = note-stands (old₀ c) (bytes₀ c) (sixteen c) (all c) _ (e .0) z _ (e .1) in (
+      run-accepted (old₀ c) (bytes₀ c) (sixteen c) (all c) _ (e .0) z .0,
+      run-next (old₀ c) (bytes₀ c) (sixteen c) (all c) _ (e .0) z,
       x,
       y,
       w,
     )
 
+-- the call that was run again, seen from the comparison of the states
+abbrev run-of : tie.After-same-kernel → tie.After-recorded
+run-of s = s .before .before .before .before .before
+
 returns-3 : tie.Need-returns-3
 returns-3 c = λ l.
-    let a = c .before .before .before .before .before .before .before .before .before .before .before .args in
-    let d = c .before .before .before .before .before .before in
-    let (n, e, _, _, _) = ran d (c .before .before .before .if2 .left) in
-    let u = c .before .same-kernel in
-    again-other (a .old) (a .bytes) (a .end) (a .note .now) l (rules d) n _ e (sym (u .ensures) ∙ not-true (u .result) (c .if3 .taken))
+    let s : tie.After-same-kernel = c .before in
+    let d = run-of s in
+    let (n, e, _, _, _) = ran d (s .before .before .if2 .left) in
+    again-other (old₀ d) (bytes₀ d) (end₀ d) (note₀ d) l (rules d) n _ e
+    (sym (s .same-kernel .ensures) ∙ not-true (s .same-kernel .result) (c .if3 .taken))
 
 returns-4 : tie.Need-returns-4
 returns-4 c = λ l.
-    let a = c .before .before .before .before .before .before .before .before .before .before .before .before .args in
-    let d = c .before .before .before .before .before .before .before in
-    let (n, e, _, _, w) = ran d (c .before .before .before .before .if2 .left) in
-    let u = c .before .before .same-kernel in
-    other-length (noteFor (a .old) (a .bytes)) (a .note .now) (λ h. c .if4 .taken (w ∙ h))
-    ∙ again-note (a .old) (a .bytes) (a .end) (a .note .now) l (rules d) n _ e
-    (sym (u .ensures) ∙ not-false (u .result) (c .before .if3 .left))
+    let s : tie.After-same-kernel = c .before .before in
+    let d = run-of s in
+    let (n, e, _, _, w) = ran d (s .before .before .if2 .left) in
+    other-length (noteFor (old₀ d) (bytes₀ d)) (note₀ d) (λ h. c .if4 .taken (w ∙ h))
+    ∙ again-note (old₀ d) (bytes₀ d) (end₀ d) (note₀ d) l (rules d) n _ e
+    (sym (s .same-kernel .ensures) ∙ not-false (s .same-kernel .result) (c .before .if3 .left))
 
 array-share-prefix-again : tie.Need-array-share-prefix-again
 array-share-prefix-again c =
-    ran (c .before .before .before .before .before .before .before) (c .before .before .before .before .if2 .left) .2
+    let s : tie.After-same-kernel = c .before .before in
+    ran (run-of s) (s .before .before .if2 .left) .2
 
 slice-aggregate-same-bytes : tie.Need-slice-aggregate-same-bytes
 slice-aggregate-same-bytes c =
-    sym (length-take-le _ _ (ran (c .before .before .before .before .before .before .before .before)
-    (c .before .before .before .before .before .if2 .left) .2))
+    let s : tie.After-same-kernel = c .before .before .before in
+    sym (length-take-le _ _ (ran (run-of s) (s .before .before .if2 .left) .2))
 
 same-bytes-requires : tie.Need-same-bytes-requires
 same-bytes-requires c κs = search needs
 
 returns-5 : tie.Need-returns-5
 returns-5 c = λ l.
-    let a = c .before .before .before .before .before .before .before .before .before .before .before .before .before .before .args in
-    let d = c .before .before .before .before .before .before .before .before .before in
-    let (n, e, _, t, w) = ran d (c .before .before .before .before .before .before .if2 .left) in
-    let u = c .before .before .before .before .same-kernel in
-    let note = noteFor (a .old) (a .bytes) in
-    let b : begins (take (d .recorded .result .used) (d .recorded .last .1 .1 .0)) (a .note .now) ≡ begins note (a .note .now) = rw t in
-    c .same-bytes .ensures ∙ b ∙ begins-same note (a .note .now) (sym w ∙ c .before .before .if4 .left)
-    ∙ again-note (a .old) (a .bytes) (a .end) (a .note .now) l (rules d) n _ e
-    (sym (u .ensures) ∙ not-false (u .result) (c .before .before .before .if3 .left))
+    let s : tie.After-same-kernel = c .before .before .before .before in
+    let d = run-of s in
+    let (n, e, _, t, w) = ran d (s .before .before .if2 .left) in
+    let note = noteFor (old₀ d) (bytes₀ d) in
+    let b : begins (take (d .recorded .result .used) (d .recorded .last .1 .1 .0)) (note₀ d) ≡ begins note (note₀ d) = rw t in
+    c .same-bytes .ensures ∙ b ∙ begins-same note (note₀ d) (sym w ∙ c .before .before .if4 .left)
+    ∙ again-note (old₀ d) (bytes₀ d) (end₀ d) (note₀ d) l (rules d) n _ e
+    (sym (s .same-kernel .ensures) ∙ not-false (s .same-kernel .result) (c .before .before .before .if3 .left))
 
 pub yields-again-spec : {M : Type 1} → statement M
 yields-again-spec =
