@@ -14,8 +14,8 @@ use Rattle.spec_calls.specs.Calls.{callOf}
 use Rattle.spec_refusals.specs.Refusals.{numberOf}
 use Rattle.spec_effects.specs.Effects.{valueOf}
 use Rattle.spec_notes.proofs.FramesRead.{note-sizes}
-use Rattle.code_notes.specs.Spans.{noteIn}
-use Rattle.code_notes.proofs.SpansOfCalls.{note-in}
+use Rattle.code_notes_spans.specs.Spans.{noteIn}
+use Rattle.code_notes_spans.proofs.SpansOfCalls.{note-in}
 use Rattle.spec_answers.specs.Steps.{answer}
 use Rattle.code_answers_given.specs.Given.{given}
 use Rattle.spec_answers.specs.Logs.{logged, stateAfter, noteFor, recorded, logAfter}

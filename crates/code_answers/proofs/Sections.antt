@@ -11,10 +11,10 @@ use Rattle.spec_notes.specs.Notes.{section}
 use Rattle.code_calls.specs.declared.named.Named.{Named}
 use Rattle.code_calls.specs.Named.{namedBy}
 use Rattle.code_notes_scheduler.specs.SchedulerEntry.{levelsNoted}
-use Rattle.code_notes.specs.Spans.{frontIn}
+use Rattle.code_notes_spans.specs.Spans.{frontIn}
 use Rattle.code_notes.specs.SectionsOf.{levelsOf, threadPart, semaphorePart, eventPart, messagePart}
 use Rattle.code_notes.proofs.BeforeLength.{sections-put}
-use Rattle.code_notes.proofs.Waiters.{waiter-found}
+use Rattle.code_notes_spans.proofs.Waiters.{waiter-found}
 
 -- x is the call as the code has it, n what it looked up; p is the pen at first, and then behind each section
 pub one-by-one : (k k′ : Kernel) (bytes : List ℕ) (x : Call) (n : Named) (p p₁ p₂ p₃ p₄ p₅ : Pen) → x ≡ callOf bytes → n ≡ namedBy k x

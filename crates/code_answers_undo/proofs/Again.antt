@@ -23,7 +23,7 @@ use Rattle.spec_notes.specs.Back.{Sections, stateBefore}
 use Rattle.spec_notes.specs.Frames.{nothing, sections, isWhole, framesFrom, framesOf}
 use Rattle.spec_notes.specs.Undo.{lastLength, hasLast, lastNote}
 use Rattle.spec_notes.specs.Undoes.{callBytes, backFrom, isDecoded, levelsFit, yieldsAgain, undoesNote, undoes}
-use Rattle.code_notes.proofs.SpansOfCalls.{note-in}
+use Rattle.code_notes_spans.proofs.SpansOfCalls.{note-in}
 use Rattle.code_notes.proofs.BeforeLength.{note-short}
 use Rattle.code_notes_back.specs.declared.state_back.Back.{Back}
 use Rattle.code_notes_back.specs.Restored.{backOf}

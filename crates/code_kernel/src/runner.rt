@@ -1,6 +1,7 @@
 // Who runs when no region is held.
 ghost use mathlib.Core.Path.{_≡_};
-ghost use Rattle.spec_kernel.specs.Runner.{chosen, runnerOf};
+ghost use Rattle.spec_kernel.specs.Runner.{chosen};
+ghost use Rattle.code_kernel.specs.RunnerOf.{runnerOf};
 use crate::places;
 use spec_kernel::records::Kernel;
 use spec_kernel::records::Thread;

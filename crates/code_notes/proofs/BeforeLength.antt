@@ -16,7 +16,7 @@ use Rattle.spec_notes.specs.Predicted.{predictedScheduler}
 use Rattle.spec_notes.specs.Touched.{touchedThread, touchedSemaphore, touchedEvent, touchedMessage}
 use Rattle.spec_notes.specs.Sections.{threadEntry, semaphoreEntry, eventEntry, messageEntry, schedulerSection}
 use Rattle.spec_notes.specs.Notes.{section}
-use Rattle.code_notes.specs.Spans.{threadSpan, waiterOf, frontIn, noteIn}
+use Rattle.code_notes_spans.specs.Spans.{threadSpan, waiterOf, frontIn, noteIn}
 use Rattle.code_notes_scheduler.specs.SchedulerEntry.{levelsNoted}
 use Rattle.code_notes.specs.SectionsOf.{levelsOf, threadPart, semaphorePart, eventPart, messagePart}
 use Rattle.code_notes.proofs.Sizes.{levels-short, threads-short, semaphores-short, events-short, messages-short}

@@ -1,5 +1,2 @@
 pub mod Sizes
 pub mod BeforeLength
-pub mod InSpans
-pub mod SpansOfCalls
-pub mod Waiters

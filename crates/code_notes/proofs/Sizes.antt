@@ -25,7 +25,7 @@ use Rattle.spec_refusals.specs.Refusals.{is, isOneOf}
 use Rattle.spec_notes.specs.Rows.{threadWidths, semaphoreWidths, eventWidths, messageWidths, schedulerWidths}
 use Rattle.spec_notes.specs.Sections.{entriesFrom, unlessPredicted}
 use Rattle.spec_notes.specs.Counts.{countFrom}
-use Rattle.code_notes.specs.Spans.{Span, span, alone, threadSpan, semaphoreSpan, eventSpan, messageSpan}
+use Rattle.code_notes_spans.specs.Spans.{Span, span, alone, threadSpan, semaphoreSpan, eventSpan, messageSpan}
 use Rattle.spec_notes.proofs.EntriesShort.{entries-short}
 use Rattle.code_notes_scheduler.specs.declared.scheduler_notes.Levels.{Levels}
 use Rattle.code_notes_scheduler.specs.SchedulerEntry.{levelsNoted}

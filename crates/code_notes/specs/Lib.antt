@@ -1,3 +1,1 @@
-pub mod Spans
-pub mod Meant
 pub mod SectionsOf

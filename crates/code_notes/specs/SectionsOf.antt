@@ -12,7 +12,7 @@ use Rattle.spec_moves.specs.declared.parts.Threads.{Threads}
 use Rattle.spec_moves.specs.declared.parts.Posts.{Posts}
 use Rattle.spec_calls.specs.declared.call.Call.{Call}
 use Rattle.spec_notes.specs.Sections.{entriesFrom}
-use Rattle.code_notes.specs.Spans.{threadSpan, semaphoreSpan, eventSpan, messageSpan}
+use Rattle.code_notes_spans.specs.Spans.{threadSpan, semaphoreSpan, eventSpan, messageSpan}
 use Rattle.code_notes_scheduler.specs.declared.scheduler_notes.Levels.{Levels}
 use Rattle.code_notes_semaphores.specs.SemaphoreEntries.{semaphoreEntries}
 use Rattle.code_notes_events.specs.EventEntries.{eventEntries}

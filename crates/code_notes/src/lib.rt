@@ -1,3 +1,2 @@
 // The parts of a note, each over the ids that a call of its kind can touch.
 pub mod note;
-pub mod spans;

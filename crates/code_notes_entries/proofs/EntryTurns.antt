@@ -1,20 +1,20 @@
 -- Laws on a section that is read entry by entry: the readers of all kinds of records are one, over what an entry does.
 use Prim.Native.Nat.{ℕ, zero, suc, _+_, _-_, _/_, _≤_, _<_}
-use mathlib.Core.Path.{_≡_, refl, _∙_}
+use mathlib.Core.Path.{_≡_, refl, sym, ap, _∙_}
 use mathlib.Core.Bool.{Bool, true, false, cond}
 use mathlib.Core.List.{List, [], _∷_, map}
 use native.Mathlib.Nat.{add-zero}
 use native.Mathlib.Numerals.{add-one}
 use native.Mathlib.Omega.{arith}
 use lib.ListN.{length, getD, drop, set, replicate, length-drop, drop-of-length-le}
-use lib.Seq.{drop-cons, drop-drop, getD-drop}
+use lib.Seq.{drop-cons, drop-drop, getD-drop, set-out}
 use Rattle.base_rows.specs.Rows.{rowFrom, usedBy, sum, firstFlagged as isFlagged}
 use Rattle.spec_kernel.specs.declared.records.Semaphore.{Semaphore}
 use Rattle.spec_kernel.specs.declared.records.Event.{Event}
 use Rattle.spec_kernel.specs.declared.records.Message.{Message}
 use Rattle.spec_kernel.specs.Records.{noSemaphore, noEvent, noMessage}
 use Rattle.spec_calls.specs.declared.call.Call.{Call}
-use Rattle.spec_notes.specs.Rows.{semaphoreFrom, semaphoreWidths, eventFrom, eventWidths, messageFrom, messageWidths}
+use Rattle.spec_notes.specs.Rows.{semaphoreFrom, semaphoreWidths, eventFrom, eventWidths, messageWidths}
 use Rattle.spec_notes.specs.Touched.{youngerSemaphore}
 use Rattle.spec_notes.specs.Predicted.{predictedSemaphore, predictedEvent, predictedMessage}
 use Rattle.spec_notes.specs.Back.{readSemaphores, semaphoresBefore, readEvents, bitChanged}
@@ -91,10 +91,17 @@ used-short (w ∷ ws) flags = go (isFlagged flags) (used-short ws (flags / 2))
     go true h = omega arith
     go false h = omega arith
 
+-- an entry that stores a record, of its id, its flags and the bytes behind them
+abbrev pub storing : {A : Type 0} → (ℕ → ℕ → List ℕ → A) → ℕ → ℕ → List ℕ → List A → List A
+storing back i flags t a = set a i (back i flags t)
+
 -- ---- the readers are that
 module _ (c : Call) (new : List Semaphore) where
+  abbrev pub semaphoreBack : ℕ → ℕ → List ℕ → Semaphore
+  semaphoreBack i flags t = semaphoreFrom (rowFrom semaphoreWidths flags (predictedSemaphore c (getD new i noSemaphore)) t)
+
   abbrev pub semaphoreDoes : ℕ → ℕ → List ℕ → List Semaphore → List Semaphore
-  semaphoreDoes i flags t a = set a i (semaphoreFrom (rowFrom semaphoreWidths flags (predictedSemaphore c (getD new i noSemaphore)) t))
+  semaphoreDoes = storing semaphoreBack
 
   semaphores-entries : (n : ℕ) (s : List ℕ) (a : List Semaphore)
       → readSemaphores n c new s a ≡ entries (ofFlags semaphoreWidths semaphoreDoes) (flagsOwn semaphoreWidths semaphoreDoes) n s a
@@ -109,8 +116,11 @@ module _ (c : Call) (new : List Semaphore) where
   semaphores-turns s = semaphores-entries (length s) s _
 
 module _ (new : List Event) where
+  abbrev pub eventBack : ℕ → ℕ → List ℕ → Event
+  eventBack i flags t = eventFrom (rowFrom eventWidths flags (predictedEvent (getD new i noEvent)) t)
+
   abbrev pub eventDoes : ℕ → ℕ → List ℕ → List Event → List Event
-  eventDoes i flags t a = set a i (eventFrom (rowFrom eventWidths flags (predictedEvent (getD new i noEvent)) t))
+  eventDoes = storing eventBack
 
   events-entries : (n : ℕ) (s : List ℕ) (a : List Event)
       → readEvents n new s a ≡ entries (ofFlags eventWidths eventDoes) (flagsOwn eventWidths eventDoes) n s a
@@ -144,41 +154,36 @@ module _ (c : Call) (runner : ℕ) (new : List Message) where
   unfolding messagesBefore
   messages-turns s = messages-entries (length s) s _
 
--- ---- a turn of each loop, of what its calls answer
-module _ (s : List ℕ) (p b u : ℕ) (h : p < length s) (b′ : b ≡ getD s (p + 1) 0) where
-  pub semaphore-turn : (c : Call) (new a a′ : List Semaphore) (v : Semaphore) → u ≡ usedBy semaphoreWidths b
-      → v ≡ semaphoreFrom
-      (rowFrom semaphoreWidths (getD s (p + 1) 0) (predictedSemaphore c (getD new (getD s p 0) noSemaphore)) (drop (p + 1 + 1) s))
-      → a′ ≡ set a (getD s p 0) v
-      → flaggedFrom semaphoreWidths (semaphoreDoes c new) s p a ≡ flaggedFrom semaphoreWidths (semaphoreDoes c new) s (p + 1 + 1 + u) a′
-  semaphore-turn c new a a′ v e f g = flagged-next semaphoreWidths (semaphoreDoes c new) s p a h ∙ rw (g, f, e, b′)
+-- ---- a turn of a reader's loop: at p an id, behind it flags, behind them the fields that are flagged
+pub record Turn (ws s : List ℕ) (p flags used : ℕ) : Type 0 where
+  pub more : p < length s
+  pub told : flags ≡ getD s (p + 1) 0
+  pub size : used ≡ usedBy ws flags
 
-  pub event-turn : (new a a′ : List Event) (v : Event) → u ≡ usedBy eventWidths b
-      → v ≡ eventFrom (rowFrom eventWidths (getD s (p + 1) 0) (predictedEvent (getD new (getD s p 0) noEvent)) (drop (p + 1 + 1) s))
-      → a′ ≡ set a (getD s p 0) v
-      → flaggedFrom eventWidths (eventDoes new) s p a ≡ flaggedFrom eventWidths (eventDoes new) s (p + 1 + 1 + u) a′
-  event-turn new a a′ v e f g = flagged-next eventWidths (eventDoes new) s p a h ∙ rw (g, f, e, b′)
-
-  pub message-turn : (c : Call) (runner : ℕ) (new : List Message) (r : Message) (row : List ℕ) (messages messages′ : List Message)
-      (out out′ at at′ : List ℕ)
-      → u ≡ usedBy messageWidths b
-      → r ≡ getD new (getD s p 0) noMessage
-      → row ≡ rowFrom messageWidths (getD s (p + 1) 0) (predictedMessage c runner r) (drop (p + 1 + 1) s)
-      → messages′ ≡ set messages (getD s p 0) (messageFrom row)
-      → out′ ≡ set out (getD s p 0) 1
-      → at′ ≡ set at (getD row 7 0) (getD s p 0)
-      → flaggedFrom messageWidths (messageDoes c runner new) s p (record { messages = messages; out = out; at = at })
-      ≡ flaggedFrom messageWidths (messageDoes c runner new) s (p + 1 + 1 + u) (record { messages = messages′; out = out′; at = at′ })
-  message-turn c runner new r row messages messages′ out out′ at at′ e f g i j k =
-      flagged-next messageWidths (messageDoes c runner new) s p _ h ∙ rw (i, j, k, g, f, e, b′)
-
--- an id past the end
-pub at-least : (l i : ℕ) {k : ℕ} → l ≡ k → k ≤ i → l ≤ i
-at-least l i e h = omega arith
+pub turn-short : {ws s : List ℕ} {p flags used : ℕ} → Turn ws s p flags used → used ≤ sum ws
+turn-short {ws} {s} {p} {flags} t = rw (t .size) (used-short ws flags)
 
 -- the loop goes on
-pub goes-on : (l p u : ℕ) → p < l → l - (p + 1 + 1 + u) < l - p
-goes-on l p u h = omega arith
+pub turn-less : {ws s : List ℕ} {p flags used : ℕ} → Turn ws s p flags used → length s - (p + 1 + 1 + used) < length s - p
+turn-less t = omega arith
+
+-- what is read in the end is what the entry does, and then the entries behind it
+pub turned : {A : Type 0} {ws s : List ℕ} {p flags used : ℕ} {x a′ : A} (does : ℕ → ℕ → List ℕ → A → A) (a : A)
+    → Turn ws s p flags used
+    → a′ ≡ does (getD s p 0) (getD s (p + 1) 0) (drop (p + 1 + 1) s) a
+    → x ≡ flaggedFrom ws does s p a
+    → x ≡ flaggedFrom ws does s (p + 1 + 1 + used) a′
+turned {A} {ws} {s} {p} does a t e f = f ∙ flagged-next ws does s p a (t .more) ∙ rw (e, t .size, t .told)
+
+-- ---- a table is read: the entry of an id stores its record, and one past the table's end stores nothing
+module _ {A : Type 0} {ws s : List ℕ} {p flags used : ℕ} {x : List A} (back : ℕ → ℕ → List ℕ → A) (a : List A)
+    (t : Turn ws s p flags used) (f : x ≡ flaggedFrom ws (storing back) s p a) where
+  pub stored : (v : A) → v ≡ back (getD s p 0) (getD s (p + 1) 0) (drop (p + 1 + 1) s)
+      → x ≡ flaggedFrom ws (storing back) s (p + 1 + 1 + used) (set a (getD s p 0) v)
+  stored v e = turned (storing back) a t (ap (set a (getD s p 0)) e) f
+
+  pub skipped : {n : ℕ} → length a ≡ n → n ≤ getD s p 0 → x ≡ flaggedFrom ws (storing back) s (p + 1 + 1 + used) a
+  skipped e h = turned (storing back) a t (sym (set-out a (getD s p 0) _ (omega arith))) f
 
 -- the longest entry of each kind
 pub sum-semaphore : sum semaphoreWidths ≡ 13

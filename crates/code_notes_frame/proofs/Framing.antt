@@ -66,7 +66,13 @@ module _ (s : List ℕ) (v w x y z : ℕ) where
 
   abbrev pub framed : Frames
   framed =
-      record { scheduler = part 18 b; threads = part (b + 2) c; semaphores = part (c + 2) d; events = part (d + 2) e; messages = part (e + 2) f }
+      record {
+        scheduler = part 18 b;
+        threads = part (b + 2) c;
+        semaphores = part (c + 2) d;
+        events = part (d + 2) e;
+        messages = part (e + 2) f;
+      }
 
   module _ (v′ : v ≡ un 2 (drop 16 s)) (w′ : w ≡ un 2 (drop b s)) (x′ : x ≡ un 2 (drop c s)) (y′ : y ≡ un 2 (drop d s))
       (z′ : z ≡ un 2 (drop e s)) where

@@ -1,7 +1,8 @@
 // The state rules of each record by itself, as a test.
 ghost use mathlib.Core.Path.{_≡_};
 ghost use Rattle.spec_rules.specs.Tests.{noWake, isNoThread, isNoSemaphore, isNoMessage, semaphoreWaited, eventWaited};
-ghost use Rattle.spec_rules.specs.Tests.{conditionKept, liveThreadKept, threadKept, liveSemaphoreKept, semaphoreKept, liveMessageKept, messageKept};
+ghost use Rattle.spec_rules.specs.Tests.{conditionKept, liveThreadKept, threadKept, liveSemaphoreKept, semaphoreKept};
+ghost use Rattle.spec_rules.specs.Tests.{liveMessageKept, messageKept};
 use spec_kernel::records::Condition;
 use spec_kernel::records::Event;
 use spec_kernel::records::Message;

@@ -47,10 +47,21 @@ module _ (k : Kernel) (c : Call) where
   abbrev runners : List Kind → List ℕ
   runners l = map (λ x. x .does k c .runner) l
 
+  -- Unfolded is each row of the table and what it is made of: a shut one would not show the runner that it leaves.
   same-runners : runners effectsOfKinds ≡ map (λ x. k .runner) effectsOfKinds
-  unfolding tick createThread freeMessages destroyThread setPriority resetPriority yielded sleep block pushUnscheduled popUnscheduled
-      popAllUnscheduled pushCritical popCritical popAllCritical createSemaphore destroySemaphore makePeriodic removePeriodic pendSemaphore
-      postSemaphore workedOut loadEvent pendEvent setBit clearBit createMessage destroyMessage handOver postMessage receive pendMessage
+  unfolding
+      -- spec_threads
+      block createThread freeMessages destroyThread setPriority resetPriority yielded sleep
+      -- spec_regions
+      pushUnscheduled popUnscheduled popAllUnscheduled pushCritical popCritical popAllCritical
+      -- spec_semaphores
+      createSemaphore destroySemaphore makePeriodic removePeriodic pendSemaphore postSemaphore
+      -- spec_events
+      workedOut loadEvent pendEvent setBit clearBit
+      -- spec_messages
+      createMessage destroyMessage handOver postMessage receive pendMessage
+      -- spec_time
+      tick
   same-runners = simp (cond-runner, post-runner, pulses-runner, both)
 
   runner-at : (l : List Kind) → runners l ≡ map (λ x. k .runner) l → (i : ℕ) → getD l i noKind .does k c .runner ≡ k .runner

@@ -1,11 +1,10 @@
 -- Who runs: the first ready thread.
-use Prim.Native.Nat.{ℕ, zero, suc, _+_}
+use Prim.Native.Nat.{ℕ, zero, suc}
 use mathlib.Core.Bool.{cond}
 use mathlib.Core.List.{List, [], _++_}
-use lib.Dec.{eqb, ltb}
+use lib.Dec.{ltb}
 use Rattle.base_queue.specs.Lists.{firstOf}
 use Rattle.base_queue.specs.Queues.{items}
-use Rattle.spec_kernel.specs.declared.records.Thread.{Thread}
 use Rattle.spec_kernel.specs.declared.records.Kernel.{Kernel}
 use Rattle.spec_kernel.specs.Records.{thread}
 use Rattle.spec_kernel.specs.Places.{readyList, homeOf, semaphoreHome}
@@ -22,8 +21,3 @@ firstReady k = firstOf (readyFrom k 1 30)
 -- the first place, where it is in a ready list; in a state that keeps the rules this is the first ready one
 unfoldable pub chosen : Kernel → ℕ
 chosen k = cond (ltb (homeOf (thread k (firstOf (items (k .places))))) (semaphoreHome 0)) (firstOf (items (k .places))) 255
-
--- the same from the levels, who ran, the first place and its record
-unfoldable pub runnerOf : ℕ → ℕ → ℕ → ℕ → Thread → ℕ
-runnerOf unscheduled critical runner first r =
-    cond (eqb (unscheduled + critical) 0) (cond (ltb (homeOf r) (semaphoreHome 0)) first 255) runner

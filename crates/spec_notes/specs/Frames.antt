@@ -28,7 +28,13 @@ areWhole a b c d e rest = isWhole a && isWhole b && isWhole c && isWhole d && is
 
 abbrev pub sectionsAt : List ℕ → List ℕ → List ℕ → List ℕ → List ℕ → Sections
 sectionsAt a b c d e =
-    record { scheduler = firstSection a; threads = firstSection b; semaphores = firstSection c; events = firstSection d; messages = firstSection e }
+    record {
+      scheduler = firstSection a;
+      threads = firstSection b;
+      semaphores = firstSection c;
+      events = firstSection d;
+      messages = firstSection e;
+    }
 
 -- all within the note, and behind them the two bytes of its length
 unfoldable pub framesFrom : List ℕ → Decoded

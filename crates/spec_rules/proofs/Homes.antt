@@ -48,7 +48,15 @@ module _ (k : Kernel) (live-below : (i : ℕ) → semaphore k i .live ≡ true �
           → (live ≡ true → (1 ≤ r .priority) × (r .priority ≤ 30) × (1 ≤ r .first) × (r .first ≤ 30))
           → (live ≡ true → ConditionKept k (r .ticks) c)
           → Housed
-          (record { live = live; priority = r .priority; first = r .first; condition = c; ticks = r .ticks; wake = r .wake; reply = r .reply })
+          (record {
+            live = live;
+            priority = r .priority;
+            first = r .first;
+            condition = c;
+            ticks = r .ticks;
+            wake = r .wake;
+            reply = r .reply;
+          })
       go false c P C = omega (arith, ne-eqb)
       go true Ready P C = let p = P refl in record {
         ready = λ _ _. refl;

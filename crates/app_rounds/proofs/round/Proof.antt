@@ -41,7 +41,8 @@ wrapping-add-u64-requires c κs = search needs
 
 add-at : tie.Need-add-at Inv-loop μ-loop
 add-at c =
-    omega (arith, c .before .before .before .before .before .before .before .before .before .before .before .before .before .before .good .1 .0)
+    let half = c .before .before .before .before .before .before .before in
+    omega (arith, half .before .before .before .before .before .before .before .good .1 .0)
 
 loop-less : tie.Need-loop-less Inv-loop μ-loop
 loop-less c = search needs

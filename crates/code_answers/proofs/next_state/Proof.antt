@@ -5,7 +5,8 @@ use Rattle.spec_kernel.specs.declared.records.Kernel.{Kernel}
 use Rattle.base_queue.specs.Lists.{firstOf}
 use Rattle.base_queue.specs.Queues.{items}
 use Rattle.spec_kernel.specs.Records.{thread}
-use Rattle.spec_kernel.specs.Runner.{chosen, runnerOf}
+use Rattle.spec_kernel.specs.Runner.{chosen}
+use Rattle.code_kernel.specs.RunnerOf.{runnerOf}
 use Rattle.spec_moves.specs.States.{withRunner, scheduled}
 use Rattle.code_answers.proofs.next_state.Statement.{statement}
 use Rattle.code_answers.proofs.next_state.Tie as tie

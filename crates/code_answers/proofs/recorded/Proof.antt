@@ -13,7 +13,7 @@ use Rattle.spec_calls.specs.declared.call.Call.{Call}
 use Rattle.spec_calls.specs.Calls.{callOf}
 use Rattle.spec_refusals.specs.Refusals.{numberOf}
 use Rattle.code_calls.specs.declared.named.Named.{Named}
-use Rattle.code_notes.specs.Spans.{frontIn, noteIn}
+use Rattle.code_notes_spans.specs.Spans.{frontIn, noteIn}
 use Rattle.code_notes.proofs.BeforeLength.{note-closed, note-short}
 use Rattle.code_notes.proofs.Sizes.{composed}
 use Rattle.spec_answers.specs.declared.Answer.{Answer}
@@ -194,10 +194,9 @@ returns-2 : tie.Need-returns-2
 returns-2 c =
     let w : tie.After-write = c .before .before .before .before in
     let m = messages-of (end-of w) in
-    let l = written w in (
-      ap (λ (x : Answer). logged x (kernel m) (number-of m .before .before .before .before .args .used)) (c .before .given .ensures) ∙ l .no-room (c .if2 .taken),
-      l .log-after,
-    )
+    let used = number-of m .before .before .before .before .args .used in
+    let l = written w in
+    (ap (λ (x : Answer). logged x (kernel m) used) (c .before .given .ensures) ∙ l .no-room (c .if2 .taken), l .log-after)
 
 same-length-2 : tie.Need-same-length-2
 same-length-2 c = search needs
@@ -205,10 +204,9 @@ same-length-2 c = search needs
 returns-3 : tie.Need-returns-3
 returns-3 c =
     let w : tie.After-write = c .before .before .before .before in
-    let l = written w in (
-      ap (λ (x : Answer). logged x (next (messages-of (end-of w))) (w .write .result)) (c .before .given .ensures) ∙ l .with-room (c .if2 .left),
-      l .log-after,
-    )
+    let u = next (messages-of (end-of w)) in
+    let l = written w in
+    (ap (λ (x : Answer). logged x u (w .write .result)) (c .before .given .ensures) ∙ l .with-room (c .if2 .left), l .log-after)
 
 pub recorded-spec : {M : Type 1} → statement M
 recorded-spec =

@@ -1,4 +1,4 @@
--- `code_answers_undo::undo_note` meets its contract: what is read back is the state before, where the note has its frame and its levels fit.
+-- `code_answers_undo::undo_note` meets its contract: where the note has its frame and its levels fit, what is read is the state before.
 use Prim.Native.Nat.{ℕ}
 use mathlib.Core.Path.{_≡_, sym, ap, _∙_}
 use mathlib.Core.List.{List}

@@ -1,68 +1,18 @@
 -- `code_effects::effect` meets its contract: each arm does what the table has at its kind.
-use Prim.Native.Nat.{ℕ, _≤_, _<_}
-use mathlib.Core.Path.{_≡_, refl, _∙_}
-use mathlib.Core.Logic.{_⊎_, ⊎-elim, inl, inr}
+use Prim.Native.Nat.{ℕ}
+use mathlib.Core.Path.{refl}
+use mathlib.Core.List.{List, [], _∷_}
+use mathlib.Core.Logic.{⊎-elim, inl, inr}
 use native.Mathlib.Omega.{arith}
-use lib.Dec.{eqb}
-use lib.ListN.{getD}
-use borrow.Author.Tests.{eqb-true, eqb-false}
-use borrow.Table.Steps.{cases}
 use borrow.Author.Needs.{needs}
-use Rattle.spec_kernel.specs.declared.records.Kernel.{Kernel}
-use Rattle.spec_calls.specs.declared.call.Call.{Call}
-use Rattle.spec_calls.proofs.KindRuns.{asKind}
-use Rattle.code_events.specs.Signals.{signalled}
-use Rattle.spec_effects.specs.Effects.{effectsOfKinds, noKind, effect}
-use Rattle.spec_effects.proofs.ByKind.{NoneOf, none-of, does-at, does-past}
+use Rattle.spec_effects.proofs.ByKind.{does-past}
+use Rattle.code_effects.proofs.Arms.{row, singles, left-over, signals}
 use Rattle.code_effects.proofs.effect.Statement.{statement}
 use Rattle.code_effects.proofs.effect.Tie as tie
 
--- what the five kinds of signals do, by the number of the kind
-signals-at : (k : Kernel) (c : Call) (m : ℕ) → signalled k (asKind c m) ≡ getD effectsOfKinds m noKind .does k (asKind c m) → c .kind ≡ m
-    → signalled k c ≡ effect k c
-signals-at k c m h e =
-    let mid : signalled k c ≡ getD effectsOfKinds m noKind .does k c = rw e h in
-    mid ∙ does-at k c m e
-
--- none of the kinds that have an arm of their own
-abbrev Left : ℕ → Type 0
-Left n =
-    (((((((NoneOf n 18 × (n ≡ 19 ⊎ n ≡ 28 → ⊥)) × (n ≡ 20 → ⊥)) × (n ≡ 21 → ⊥)) × (n ≡ 24 → ⊥)) × (n ≡ 25 → ⊥)) × (n ≡ 26 → ⊥))
-    × (n ≡ 27 → ⊥))
-
-left : (k : Kernel) (c : Call) → Left (c .kind) → 1 ≤ c .kind → c .kind < 31 → signalled k c ≡ effect k c
-left k c r low high =
-    let n = c .kind in
-    let t = r .0 .0 .0 .0 .0 .0 .1 in
-    cases (eqb n 22) (λ e. signals-at k c 22 refl (eqb-true n 22 e))
-    (λ e22. cases (eqb n 23) (λ e. signals-at k c 23 refl (eqb-true n 23 e))
-    (λ e23. cases (eqb n 29) (λ e. signals-at k c 29 refl (eqb-true n 29 e))
-    (λ e29. cases (eqb n 30) (λ e. signals-at k c 30 refl (eqb-true n 30 e))
-    (λ e30.
-    let all : NoneOf n 30 = (
-      (
-        (
-          (
-            (
-              (
-                (
-                  (((((r .0 .0 .0 .0 .0 .0 .0, λ e. t (inl e)), r .0 .0 .0 .0 .0 .1), r .0 .0 .0 .0 .1), eqb-false n 22 e22), eqb-false n 23 e23),
-                  r .0 .0 .0 .1,
-                ),
-                r .0 .0 .1,
-              ),
-              r .0 .1,
-            ),
-            r .1,
-          ),
-          λ e. t (inr e),
-        ),
-        eqb-false n 29 e29,
-      ),
-      eqb-false n 30 e30,
-    ) in
-    let z : n ≡ 0 = none-of n 30 all (omega arith) in
-    absurd (omega (arith, z))))))
+-- the arms before that of the signals, and 20 of those, the last first
+abbrev arms : List (List ℕ)
+arms = (27 ∷ []) ∷ (26 ∷ []) ∷ (25 ∷ []) ∷ (24 ∷ []) ∷ (21 ∷ []) ∷ (20 ∷ []) ∷ (19 ∷ 28 ∷ []) ∷ singles 18
 
 tick-requires : tie.Need-tick-requires
 tick-requires c κs = search needs
@@ -140,90 +90,90 @@ pend-message-requires : tie.Need-pend-message-requires
 pend-message-requires c κs = search needs
 
 returns : tie.Need-returns
-returns c = c .tick .ensures ∙ does-at _ _ 1 (c .before .match .keys1)
+returns c = row _ _ 1 (c .before .match .keys1) (c .tick .ensures)
 
 returns-2 : tie.Need-returns-2
-returns-2 c = c .create-thread .ensures ∙ does-at _ _ 2 (c .before .match .keys2)
+returns-2 c = row _ _ 2 (c .before .match .keys2) (c .create-thread .ensures)
 
 returns-3 : tie.Need-returns-3
-returns-3 c = c .destroy-thread .ensures ∙ does-at _ _ 3 (c .before .match .keys3)
+returns-3 c = row _ _ 3 (c .before .match .keys3) (c .destroy-thread .ensures)
 
 returns-4 : tie.Need-returns-4
-returns-4 c = c .set-priority .ensures ∙ does-at _ _ 4 (c .before .match .keys4)
+returns-4 c = row _ _ 4 (c .before .match .keys4) (c .set-priority .ensures)
 
 returns-5 : tie.Need-returns-5
-returns-5 c = c .reset-priority .ensures ∙ does-at _ _ 5 (c .before .match .keys5)
+returns-5 c = row _ _ 5 (c .before .match .keys5) (c .reset-priority .ensures)
 
 returns-6 : tie.Need-returns-6
-returns-6 c = c .yielded .ensures ∙ does-at _ _ 6 (c .before .match .keys6)
+returns-6 c = row _ _ 6 (c .before .match .keys6) (c .yielded .ensures)
 
 returns-7 : tie.Need-returns-7
-returns-7 c = c .sleep .ensures ∙ does-at _ _ 7 (c .before .match .keys7)
+returns-7 c = row _ _ 7 (c .before .match .keys7) (c .sleep .ensures)
 
 returns-8 : tie.Need-returns-8
-returns-8 c = c .push-unscheduled .ensures ∙ does-at _ _ 8 (c .before .match .keys8)
+returns-8 c = row _ _ 8 (c .before .match .keys8) (c .push-unscheduled .ensures)
 
 returns-9 : tie.Need-returns-9
-returns-9 c = c .pop-unscheduled .ensures ∙ does-at _ _ 9 (c .before .match .keys9)
+returns-9 c = row _ _ 9 (c .before .match .keys9) (c .pop-unscheduled .ensures)
 
 returns-10 : tie.Need-returns-10
-returns-10 c = c .pop-all-unscheduled .ensures ∙ does-at _ _ 10 (c .before .match .keys10)
+returns-10 c = row _ _ 10 (c .before .match .keys10) (c .pop-all-unscheduled .ensures)
 
 returns-11 : tie.Need-returns-11
-returns-11 c = c .push-critical .ensures ∙ does-at _ _ 11 (c .before .match .keys11)
+returns-11 c = row _ _ 11 (c .before .match .keys11) (c .push-critical .ensures)
 
 returns-12 : tie.Need-returns-12
-returns-12 c = c .pop-critical .ensures ∙ does-at _ _ 12 (c .before .match .keys12)
+returns-12 c = row _ _ 12 (c .before .match .keys12) (c .pop-critical .ensures)
 
 returns-13 : tie.Need-returns-13
-returns-13 c = c .pop-all-critical .ensures ∙ does-at _ _ 13 (c .before .match .keys13)
+returns-13 c = row _ _ 13 (c .before .match .keys13) (c .pop-all-critical .ensures)
 
 returns-14 : tie.Need-returns-14
-returns-14 c = c .create-semaphore .ensures ∙ does-at _ _ 14 (c .before .match .keys14)
+returns-14 c = row _ _ 14 (c .before .match .keys14) (c .create-semaphore .ensures)
 
 returns-15 : tie.Need-returns-15
-returns-15 c = c .destroy-semaphore .ensures ∙ does-at _ _ 15 (c .before .match .keys15)
+returns-15 c = row _ _ 15 (c .before .match .keys15) (c .destroy-semaphore .ensures)
 
 returns-16 : tie.Need-returns-16
-returns-16 c = c .make-periodic .ensures ∙ does-at _ _ 16 (c .before .match .keys16)
+returns-16 c = row _ _ 16 (c .before .match .keys16) (c .make-periodic .ensures)
 
 returns-17 : tie.Need-returns-17
-returns-17 c = c .remove-periodic .ensures ∙ does-at _ _ 17 (c .before .match .keys17)
+returns-17 c = row _ _ 17 (c .before .match .keys17) (c .remove-periodic .ensures)
 
 returns-18 : tie.Need-returns-18
-returns-18 c = c .pend-semaphore .ensures ∙ does-at _ _ 18 (c .before .match .keys18)
+returns-18 c = row _ _ 18 (c .before .match .keys18) (c .pend-semaphore .ensures)
 
 returns-19 : tie.Need-returns-19
-returns-19 c =
-    c .post-semaphore .ensures ∙ ⊎-elim (does-at _ _ 19) (does-at _ _ 28) (c .before .match .keys19)
+returns-19 c = let p = c .post-semaphore .ensures in ⊎-elim (λ e. row _ _ 19 e p) (λ e. row _ _ 28 e p) (c .before .match .keys19)
 
 returns-20 : tie.Need-returns-20
-returns-20 c = c .pend-event .ensures ∙ does-at _ _ 21 (c .before .match .keys21)
+returns-20 c = row _ _ 21 (c .before .match .keys21) (c .pend-event .ensures)
 
 returns-21 : tie.Need-returns-21
-returns-21 c = c .create-message .ensures ∙ does-at _ _ 24 (c .before .match .keys22)
+returns-21 c = row _ _ 24 (c .before .match .keys22) (c .create-message .ensures)
 
 returns-22 : tie.Need-returns-22
-returns-22 c = c .destroy-message .ensures ∙ does-at _ _ 25 (c .before .match .keys23)
+returns-22 c = row _ _ 25 (c .before .match .keys23) (c .destroy-message .ensures)
 
 returns-23 : tie.Need-returns-23
-returns-23 c = c .post-message .ensures ∙ does-at _ _ 26 (c .before .match .keys24)
+returns-23 c = row _ _ 26 (c .before .match .keys24) (c .post-message .ensures)
 
 returns-24 : tie.Need-returns-24
-returns-24 c = c .pend-message .ensures ∙ does-at _ _ 27 (c .before .match .keys25)
+returns-24 c = row _ _ 27 (c .before .match .keys25) (c .pend-message .ensures)
 
 returns-25 : tie.Need-returns-25
-returns-25 c = does-at _ _ 0 (omega arith)
+returns-25 c = row _ _ 0 (omega arith) refl
 
 returns-26 : tie.Need-returns-26
 returns-26 c = does-past _ _ (omega arith)
 
--- of 1 to 30, the kinds that have no arm of their own
+-- of 1 to 30, 20 and the kinds that no arm has
 returns-27 : tie.Need-returns-27
 returns-27 c =
-    c .signalled .ensures
-    ∙ ⊎-elim (λ w. signals-at _ _ 20 refl (w .keys20))
-    (λ w. left (c .before .before .args .k) (c .before .before .args .c) (w .0 .rest) (w .1 .left) (w .2 .taken)) (c .before .match .came)
+    signals _ _ (c .signalled .ensures)
+    (⊎-elim (λ w. inl (w .keys20))
+    (λ w. inr (left-over (22 ∷ 23 ∷ 29 ∷ 30 ∷ []) arms _ 30 refl (w .0 .rest) (w .1 .left) (omega (arith, w .2 .taken))))
+    (c .before .match .came))
 
 pub effect-spec : {M : Type 1} → statement M
 effect-spec =

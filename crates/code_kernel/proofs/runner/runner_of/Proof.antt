@@ -4,7 +4,7 @@ use native.Mathlib.Omega.{arith}
 use borrow.Author.Needs.{needs}
 use borrow.Author.Tests.{eq-eqb, ne-eqb, lt-ltb, le-ltb}
 use Rattle.spec_kernel.specs.Places.{homeOf}
-use Rattle.spec_kernel.specs.Runner.{runnerOf}
+use Rattle.code_kernel.specs.RunnerOf.{runnerOf}
 use Rattle.code_kernel.proofs.runner.runner_of.Statement.{statement}
 use Rattle.code_kernel.proofs.runner.runner_of.Tie as tie
 

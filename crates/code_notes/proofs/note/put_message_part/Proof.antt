@@ -1,7 +1,7 @@
 -- `code_notes::note::put_message_part` meets its contract: the part is written to a scratch array that is long enough, and then behind its
 -- length.
 use Rattle.spec_moves.specs.Standing.{postsOf}
-use Rattle.code_notes.specs.Spans.{messageSpan}
+use Rattle.code_notes_spans.specs.Spans.{messageSpan}
 use Rattle.code_notes_messages.specs.MessageEntries.{messageEntries}
 use Rattle.code_notes.specs.SectionsOf.{messagePart}
 use Rattle.code_notes.proofs.Sizes.{composed, messages-short, message-inside}

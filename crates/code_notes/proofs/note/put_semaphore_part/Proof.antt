@@ -1,6 +1,6 @@
 -- `code_notes::note::put_semaphore_part` meets its contract: the part is written to a scratch array that is long enough, and then behind
 -- its length.
-use Rattle.code_notes.specs.Spans.{semaphoreSpan}
+use Rattle.code_notes_spans.specs.Spans.{semaphoreSpan}
 use Rattle.code_notes_semaphores.specs.SemaphoreEntries.{semaphoreEntries}
 use Rattle.code_notes.specs.SectionsOf.{semaphorePart}
 use Rattle.code_notes.proofs.Sizes.{composed, semaphores-short, semaphore-inside}

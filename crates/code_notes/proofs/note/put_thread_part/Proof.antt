@@ -2,7 +2,7 @@
 -- length.
 use Rattle.spec_moves.specs.Standing.{threadsOf}
 use Rattle.spec_notes.specs.Sections.{entriesFrom}
-use Rattle.code_notes.specs.Spans.{threadSpan}
+use Rattle.code_notes_spans.specs.Spans.{threadSpan}
 use Rattle.code_notes_threads.specs.ThreadEntries.{isChanged, entryOf}
 use Rattle.code_notes.specs.SectionsOf.{threadPart}
 use Rattle.code_notes.proofs.Sizes.{composed, threads-short}

@@ -1,13 +1,12 @@
 -- `code_notes_events::event_back::events_before` meets its contract: what is still to read are the entries from p on.
 use Prim.Native.Nat.{_-_}
-use mathlib.Core.Path.{_≡_, refl, sym, _∙_}
+use mathlib.Core.Path.{_≡_, sym, _∙_}
 use native.Mathlib.Omega.{arith}
 use lib.ListN.{length, length-set}
-use lib.Seq.{set-out}
 use Rattle.spec_notes.specs.Rows.{eventWidths}
 use Rattle.spec_notes.specs.Back.{eventsBefore}
-use Rattle.code_notes_entries.proofs.EntryTurns.{flaggedFrom, entries-end, used-short, goes-on}
-use Rattle.code_notes_entries.proofs.EntryTurns.{sum-event, eventDoes, events-turns, event-turn, at-least}
+use Rattle.code_notes_entries.proofs.EntryTurns.{flaggedFrom, entries-end, Turn, turn-short, turn-less, stored, skipped}
+use Rattle.code_notes_entries.proofs.EntryTurns.{eventBack, eventDoes, events-turns, sum-event}
 use borrow.Author.Needs.{needs}
 use Rattle.code_notes_events.proofs.event_back.events_before.Statement.{statement}
 use Rattle.code_notes_events.proofs.event_back.events_before.Tie as tie
@@ -18,6 +17,20 @@ Inv-loop s new a₀ p₀ a p =
 
 abbrev μ-loop : tie.MeasureT-loop
 μ-loop s new a₀ p₀ a p = length s - p
+
+-- ---- a turn, of what its first calls answered
+abbrev test-of : tie.After-used-by Inv-loop μ-loop → tie.In-loop Inv-loop μ-loop
+test-of c = c .before .before .before
+
+abbrev loop-of : tie.After-used-by Inv-loop μ-loop → tie.At-loop Inv-loop μ-loop
+loop-of c = test-of c .before
+
+abbrev start-of : tie.After-used-by Inv-loop μ-loop → tie.Start Inv-loop μ-loop
+start-of c = loop-of c .before .before .before
+
+turn : (c : tie.After-used-by Inv-loop μ-loop)
+    → Turn eventWidths (start-of c .args .s .now) (loop-of c .loop .p) (c .before .byte-at .result) (c .used-by .result)
+turn c = record { more = test-of c .loop-test .taken; told = c .before .byte-at .ensures; size = c .used-by .ensures }
 
 first-entry-requires : tie.Need-first-entry-requires Inv-loop μ-loop
 first-entry-requires c κs = search needs
@@ -46,8 +59,7 @@ used-by-requires : tie.Need-used-by-requires Inv-loop μ-loop
 used-by-requires c κs = search needs
 
 add-p-2 : tie.Need-add-p-2 Inv-loop μ-loop
-add-p-2 c =
-    record { fits = omega (arith, c .used-by .ensures, used-short eventWidths (c .before .byte-at .result), sum-event, c .before .before .before .loop-test .taken) }
+add-p-2 c = let t = turn c in record { fits = omega (arith, turn-short t, sum-event) }
 
 mul-r : tie.Need-mul-r Inv-loop μ-loop
 mul-r c = search needs
@@ -65,36 +77,24 @@ array-set-from-a : tie.Need-array-set-from-a Inv-loop μ-loop
 array-set-from-a c = omega arith
 
 loop-less : tie.Need-loop-less Inv-loop μ-loop
-loop-less c =
-    goes-on _ (c .before .before .before .before .before .before .before .loop .p) _
-    (c .before .before .before .before .before .before .loop-test .taken)
+loop-less c = turn-less (turn (c .before .before .before))
 
 loop-again : tie.Need-loop-again Inv-loop μ-loop
 loop-again c =
-    let l = c .before .before .before .before .before .before .before .loop in
-    let a = c .before .before .before .before .before .before .before .before .before .before .args in (
-      l .inv .0,
-      simp length-set (l .inv .1),
-      l .inv .2
-          ∙ event-turn (a .s .now) (l .p) _ _ (c .before .before .before .before .before .before .loop-test .taken)
-          (c .before .before .before .before .byte-at .ensures) (a .t1) (l .a) _ _ (c .before .before .before .used-by .ensures)
-          (c .record-at .ensures) refl,
-    )
+    let u = c .before .before .before in
+    let l = loop-of u .loop in
+    let a = start-of u .args in
+    (l .inv .0, simp length-set (l .inv .1), stored (eventBack (a .t1)) (l .a) (turn u) (l .inv .2) _ (c .record-at .ensures))
 
 loop-less-2 : tie.Need-loop-less-2 Inv-loop μ-loop
-loop-less-2 c = goes-on _ (c .before .before .before .before .before .loop .p) _ (c .before .before .before .before .loop-test .taken)
+loop-less-2 c = turn-less (turn (c .before))
 
 loop-again-2 : tie.Need-loop-again-2 Inv-loop μ-loop
 loop-again-2 c =
-    let l = c .before .before .before .before .before .loop in
-    let a = c .before .before .before .before .before .before .before .before .args in (
-      l .inv .0,
-      l .inv .1,
-      l .inv .2
-          ∙ event-turn (a .s .now) (l .p) _ _ (c .before .before .before .before .loop-test .taken) (c .before .before .byte-at .ensures)
-          (a .t1) (l .a) _ _ (c .before .used-by .ensures)
-          refl (sym (set-out (l .a) _ _ (at-least _ _ (l .inv .1) (c .if1 .left)))),
-    )
+    let u = c .before in
+    let l = loop-of u .loop in
+    let a = start-of u .args in
+    (l .inv .0, l .inv .1, skipped (eventBack (a .t1)) (l .a) (turn u) (l .inv .2) (l .inv .1) (c .if1 .left))
 
 returns : tie.Need-returns Inv-loop μ-loop
 returns c =

@@ -1,4 +1,4 @@
--- `code_notes_frame::last::last_length` meets its contract: with fewer than two bytes used, it reads from the front, as the definition does.
+-- `code_notes_frame::last::last_length` meets its contract: with fewer than two bytes used it reads from the front, as the definition.
 use Prim.Native.Nat.{_-_}
 use mathlib.Core.Path.{_≡_}
 use native.Mathlib.Omega.{arith}

@@ -1,23 +1,36 @@
 -- `code_notes_semaphores::semaphore_back::semaphores_before` meets its contract: what is still to read are the entries from p on.
 use Prim.Native.Nat.{_-_}
-use mathlib.Core.Path.{_≡_, refl, sym, _∙_}
+use mathlib.Core.Path.{_≡_, sym, _∙_}
 use native.Mathlib.Omega.{arith}
 use lib.ListN.{length, length-set, length-map}
-use lib.Seq.{set-out}
 use Rattle.spec_notes.specs.Rows.{semaphoreWidths}
 use Rattle.spec_notes.specs.Back.{semaphoresBefore}
-use Rattle.code_notes_entries.proofs.EntryTurns.{flaggedFrom, entries-end, used-short, goes-on}
-use Rattle.code_notes_entries.proofs.EntryTurns.{sum-semaphore, semaphoreDoes, semaphores-turns, semaphore-turn, at-least}
+use Rattle.code_notes_entries.proofs.EntryTurns.{flaggedFrom, entries-end, Turn, turn-short, turn-less, stored, skipped}
+use Rattle.code_notes_entries.proofs.EntryTurns.{semaphoreBack, semaphoreDoes, semaphores-turns, sum-semaphore}
 use borrow.Author.Needs.{needs}
 use Rattle.code_notes_semaphores.proofs.semaphore_back.semaphores_before.Statement.{statement}
 use Rattle.code_notes_semaphores.proofs.semaphore_back.semaphores_before.Tie as tie
 
 abbrev Inv-loop : tie.InvT-loop
 Inv-loop c s new a₀ p₀ a p =
-    (length new ≡ 16) × (length a ≡ 16) × (semaphoresBefore c new s ≡ flaggedFrom semaphoreWidths (semaphoreDoes (c) (new)) s p a)
+    (length new ≡ 16) × (length a ≡ 16) × (semaphoresBefore c new s ≡ flaggedFrom semaphoreWidths (semaphoreDoes c new) s p a)
 
 abbrev μ-loop : tie.MeasureT-loop
 μ-loop c s new a₀ p₀ a p = length s - p
+
+-- ---- a turn, of what its first calls answered
+abbrev test-of : tie.After-used-by Inv-loop μ-loop → tie.In-loop Inv-loop μ-loop
+test-of c = c .before .before .before
+
+abbrev loop-of : tie.After-used-by Inv-loop μ-loop → tie.At-loop Inv-loop μ-loop
+loop-of c = test-of c .before
+
+abbrev start-of : tie.After-used-by Inv-loop μ-loop → tie.Start Inv-loop μ-loop
+start-of c = loop-of c .before .before .before
+
+turn : (c : tie.After-used-by Inv-loop μ-loop)
+    → Turn semaphoreWidths (start-of c .args .s .now) (loop-of c .loop .p) (c .before .byte-at .result) (c .used-by .result)
+turn c = record { more = test-of c .loop-test .taken; told = c .before .byte-at .ensures; size = c .used-by .ensures }
 
 younger-all-requires : tie.Need-younger-all-requires Inv-loop μ-loop
 younger-all-requires c κs = search needs
@@ -49,8 +62,7 @@ used-by-requires : tie.Need-used-by-requires Inv-loop μ-loop
 used-by-requires c κs = search needs
 
 add-p-2 : tie.Need-add-p-2 Inv-loop μ-loop
-add-p-2 c =
-    record { fits = omega (arith, c .used-by .ensures, used-short semaphoreWidths (c .before .byte-at .result), sum-semaphore, c .before .before .before .loop-test .taken) }
+add-p-2 c = let t = turn c in record { fits = omega (arith, turn-short t, sum-semaphore) }
 
 mul-r : tie.Need-mul-r Inv-loop μ-loop
 mul-r c = search needs
@@ -68,36 +80,24 @@ array-set-from-a : tie.Need-array-set-from-a Inv-loop μ-loop
 array-set-from-a c = omega arith
 
 loop-less : tie.Need-loop-less Inv-loop μ-loop
-loop-less c =
-    goes-on _ (c .before .before .before .before .before .before .before .loop .p) _
-    (c .before .before .before .before .before .before .loop-test .taken)
+loop-less c = turn-less (turn (c .before .before .before))
 
 loop-again : tie.Need-loop-again Inv-loop μ-loop
 loop-again c =
-    let l = c .before .before .before .before .before .before .before .loop in
-    let a = c .before .before .before .before .before .before .before .before .before .before .args in (
-      l .inv .0,
-      simp length-set (l .inv .1),
-      l .inv .2
-          ∙ semaphore-turn (a .s .now) (l .p) _ _ (c .before .before .before .before .before .before .loop-test .taken)
-          (c .before .before .before .before .byte-at .ensures) (a .c) (a .t2) (l .a) _ _ (c .before .before .before .used-by .ensures)
-          (c .record-at .ensures) refl,
-    )
+    let u = c .before .before .before in
+    let l = loop-of u .loop in
+    let a = start-of u .args in
+    (l .inv .0, simp length-set (l .inv .1), stored (semaphoreBack (a .c) (a .t2)) (l .a) (turn u) (l .inv .2) _ (c .record-at .ensures))
 
 loop-less-2 : tie.Need-loop-less-2 Inv-loop μ-loop
-loop-less-2 c = goes-on _ (c .before .before .before .before .before .loop .p) _ (c .before .before .before .before .loop-test .taken)
+loop-less-2 c = turn-less (turn (c .before))
 
 loop-again-2 : tie.Need-loop-again-2 Inv-loop μ-loop
 loop-again-2 c =
-    let l = c .before .before .before .before .before .loop in
-    let a = c .before .before .before .before .before .before .before .before .args in (
-      l .inv .0,
-      l .inv .1,
-      l .inv .2
-          ∙ semaphore-turn (a .s .now) (l .p) _ _ (c .before .before .before .before .loop-test .taken)
-          (c .before .before .byte-at .ensures) (a .c) (a .t2) (l .a) _ _ (c .before .used-by .ensures)
-          refl (sym (set-out (l .a) _ _ (at-least _ _ (l .inv .1) (c .if1 .left)))),
-    )
+    let u = c .before in
+    let l = loop-of u .loop in
+    let a = start-of u .args in
+    (l .inv .0, l .inv .1, skipped (semaphoreBack (a .c) (a .t2)) (l .a) (turn u) (l .inv .2) (l .inv .1) (c .if1 .left))
 
 returns : tie.Need-returns Inv-loop μ-loop
 returns c =

@@ -16,7 +16,8 @@ with-count-requires c κs = search needs
 returns-2 : tie.Need-returns-2
 returns-2 c =
     let r = c .before .before .before .before .before .args .r in
-    rw (c .before .before .before .before .if1 .left, c .with-count .ensures, lt-ltb (r .count) (r .maximum) (c .before .before .if2 .taken))
+    let below = lt-ltb (r .count) (r .maximum) (c .before .before .if2 .taken) in
+    rw (c .before .before .before .before .if1 .left, c .with-count .ensures, below)
 
 returns-3 : tie.Need-returns-3
 returns-3 c =

@@ -1,4 +1,4 @@
--- `code_notes::spans::is_one_of` meets its contract: the kinds passed are others, so the test of all is that of the rest.
+-- `code_notes_spans::spans::is_one_of` meets its contract: the kinds passed are others, so the test of all is that of the rest.
 use Prim.Native.Nat.{_-_}
 use mathlib.Core.Path.{_≡_, sym, _∙_}
 use native.Mathlib.Numerals.{add-one}
@@ -7,8 +7,8 @@ use lib.Seq.{drop-cons}
 use borrow.Author.Needs.{needs}
 use borrow.Author.Tests.{eq-eqb, ne-eqb}
 use Rattle.spec_refusals.specs.Refusals.{isOneOf}
-use Rattle.code_notes.proofs.spans.is_one_of.Statement.{statement}
-use Rattle.code_notes.proofs.spans.is_one_of.Tie as tie
+use Rattle.code_notes_spans.proofs.spans.is_one_of.Statement.{statement}
+use Rattle.code_notes_spans.proofs.spans.is_one_of.Tie as tie
 
 abbrev Inv-loop : tie.InvT-loop
 Inv-loop c kinds i₀ i = isOneOf c kinds ≡ isOneOf c (drop i kinds)

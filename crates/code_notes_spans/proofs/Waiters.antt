@@ -8,7 +8,7 @@ use Rattle.spec_calls.specs.declared.call.Call.{Call}
 use Rattle.code_calls.specs.declared.named.Named.{Named}
 use Rattle.spec_refusals.specs.Refusals.{is, isOneOf}
 use Rattle.code_calls.specs.Named.{waiterBy, namedBy}
-use Rattle.code_notes.specs.Spans.{Span, alone, threadSpan, waiterOf}
+use Rattle.code_notes_spans.specs.Spans.{Span, alone, threadSpan, waiterOf}
 
 looked-for : (a b : Bool) (waiter : ℕ) (s : Span) → cond b (alone 32 (cond (a || b) waiter 255)) s ≡ cond b (alone 32 waiter) s
 looked-for true true waiter s = refl

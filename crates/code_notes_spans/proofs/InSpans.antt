@@ -8,7 +8,7 @@ use lib.Dec.{eqb, ltb}
 use borrow.Author.Tests.{eqb-true, eqb-false, ltb-true, ltb-false}
 use borrow.Table.Steps.{cases}
 use Rattle.spec_notes.specs.Sections.{entriesFrom}
-use Rattle.code_notes.specs.Spans.{Span, span, alone}
+use Rattle.code_notes_spans.specs.Spans.{Span, span, alone}
 
 -- who is touched of n ids lies in a span: it has all of them, or at most one is touched, or nobody is
 pub data Part (touched : ℕ → Bool) (n : ℕ) : Span → Type 0 where

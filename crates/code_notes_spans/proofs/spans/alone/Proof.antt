@@ -1,7 +1,7 @@
--- `code_notes::spans::alone` meets its contract: the test is that of the definition.
+-- `code_notes_spans::spans::alone` meets its contract: the test is that of the definition.
 use borrow.Author.Tests.{lt-ltb, le-ltb}
-use Rattle.code_notes.proofs.spans.alone.Statement.{statement}
-use Rattle.code_notes.proofs.spans.alone.Tie as tie
+use Rattle.code_notes_spans.proofs.spans.alone.Statement.{statement}
+use Rattle.code_notes_spans.proofs.spans.alone.Tie as tie
 
 returns : tie.Need-returns
 returns c = rw (lt-ltb _ _ (c .if1 .taken))

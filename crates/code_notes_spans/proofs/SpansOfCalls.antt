@@ -44,12 +44,12 @@ use Rattle.spec_notes.specs.Touched.{movesInPlace, touchedThread, touchedSemaph
 use Rattle.spec_notes.specs.Sections.{threadEntry, semaphoreEntry, eventEntry, messageEntry}
 use Rattle.spec_notes.specs.Sections.{threadsSection, semaphoresSection, eventsSection, messagesSection}
 use Rattle.spec_notes.specs.Notes.{beforeLength, noteOf}
-use Rattle.code_notes.specs.Spans.{span, alone, threadSpan, semaphoreSpan, eventSpan, messageSpan}
-use Rattle.code_notes.specs.Spans.{waiterOf, threadsIn, semaphoresIn, eventsIn, messagesIn, frontIn, noteIn}
+use Rattle.code_notes_spans.specs.Spans.{span, alone, threadSpan, semaphoreSpan, eventSpan, messageSpan}
+use Rattle.code_notes_spans.specs.Spans.{waiterOf, threadsIn, semaphoresIn, eventsIn, messagesIn, frontIn, noteIn}
 use Rattle.spec_notes.proofs.Slight.{event-stays, message-stays, post-parts, pulses-parts}
 use Rattle.spec_notes.proofs.TickSlight.{post-other}
 use Rattle.spec_notes.proofs.Lengths.{thread-same, semaphore-same, younger-now, semaphore-now, moves-which}
-use Rattle.code_notes.proofs.InSpans.{Part, whole, lone, none, part-entries}
+use Rattle.code_notes_spans.proofs.InSpans.{Part, whole, lone, none, part-entries}
 
 -- the four spans of a call that answers the value v and leads from k to u
 pub record Spanned (k : Kernel) (c : Call) (v : ℕ) (u : Kernel) : Type 0 where

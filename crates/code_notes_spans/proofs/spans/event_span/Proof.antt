@@ -1,9 +1,9 @@
--- `code_notes::spans::event_span` meets its contract: the tests stand in the order of the definition.
+-- `code_notes_spans::spans::event_span` meets its contract: the tests stand in the order of the definition.
 use borrow.Author.Tests.{ne-eqb}
-use Rattle.code_notes.specs.Spans.{eventSpan}
+use Rattle.code_notes_spans.specs.Spans.{eventSpan}
 use borrow.Author.Needs.{needs}
-use Rattle.code_notes.proofs.spans.event_span.Statement.{statement}
-use Rattle.code_notes.proofs.spans.event_span.Tie as tie
+use Rattle.code_notes_spans.proofs.spans.event_span.Statement.{statement}
+use Rattle.code_notes_spans.proofs.spans.event_span.Tie as tie
 
 cast-alone : tie.Need-cast-alone
 cast-alone c = search needs

@@ -1,8 +1,8 @@
 // Which ids a call can touch, of each table.
 ghost use mathlib.Core.Path.{_≡_};
 ghost use Rattle.spec_refusals.specs.Refusals.{isOneOf};
-ghost use Rattle.code_notes.specs.Spans.{alone, threadSpan, semaphoreSpan, eventSpan, messageSpan};
-ghost use Rattle.code_notes.specs.Meant.{meant};
+ghost use Rattle.code_notes_spans.specs.Spans.{alone, threadSpan, semaphoreSpan, eventSpan, messageSpan};
+ghost use Rattle.code_notes_spans.specs.Meant.{meant};
 use spec_calls::call::Call;
 
 // So many ids from a first one on.

@@ -1,0 +1,4 @@
+pub mod InSpans
+pub mod SpansOfCalls
+pub mod SpanCases
+pub mod Waiters
