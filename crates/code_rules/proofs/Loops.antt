@@ -1,6 +1,6 @@
 -- What the proofs of the functions share: a loop over the places of a table, a loop over the records.
 use Prim.Native.Nat.{ℕ, _+_, _≤_, _<_}
-use mathlib.Core.Path.{_≡_, refl, _∙_}
+use mathlib.Core.Path.{_≡_, refl, sym, _∙_}
 use mathlib.Core.Bool.{Bool, true, false, not}
 use mathlib.Core.List.{List}
 use native.Mathlib.Numerals.{add-one}
@@ -38,46 +38,62 @@ module _ (key : ℕ → ℕ) (q : Queue) (n : ℕ) (s : n ≡ length (items q)) 
     climb-ends h = rw (sized-items q n s, w .1, rest-end (q .at) n i (omega arith))
 
 -- a loop over n records, of which i are done: the test of all is that of the rest
-abbrev pub Sweep : {A : Type 0} → Bool → (ℕ → A → Bool) → List A → ℕ → ℕ → Type 0
-Sweep all test records n i = (length records ≡ n) × (i ≤ n) × (all ≡ everyFrom test i (drop i records))
+pub record Sweep {A : Type 0} (all : Bool) (test : ℕ → A → Bool) (records : List A) (n i : ℕ) : Type 0 where
+  pub full : length records ≡ n
+  pub within : i ≤ n
+  pub rest : all ≡ everyFrom test i (drop i records)
 
-module _ {A : Type 0} {all : Bool} (test : ℕ → A → Bool) (none : A) (records : List A) {n : ℕ} (i : ℕ)
-    (w : Sweep all test records n i) where
-  pub sweep-stops : i < n → test i (getD records i none) ≡ false → false ≡ all
-  sweep-stops h p = rw (w .2, drop-cons records i none (omega arith), p)
+pub sweep-starts : {A : Type 0} {all : Bool} {test : ℕ → A → Bool} {records : List A} {n : ℕ} → length records ≡ n
+    → all ≡ everyFrom test 0 records → Sweep all test records n 0
+sweep-starts e r = record { full = e; within = omega arith; rest = r }
 
-  pub sweep-goes : i < n → test i (getD records i none) ≡ true → Sweep all test records n (i + 1)
-  sweep-goes h p = (w .0, omega arith, w .2 ∙ rw (drop-cons records i none (omega arith), p, add-one))
+module _ {A : Type 0} {all : Bool} {test : ℕ → A → Bool} {records : List A} {n i : ℕ} (none : A) (w : Sweep all test records n i) where
+  -- b is the test of the next record
+  module _ (h : i < n) {b : Bool} (e : b ≡ test i (getD records i none)) where
+    pub sweep-stops : not b ≡ true → false ≡ all
+    sweep-stops p = rw (w .rest, drop-cons records i none (omega arith), refused e p)
+
+    pub sweep-goes : not b ≡ false → Sweep all test records n (i + 1)
+    sweep-goes p =
+        record {
+          full = w .full;
+          within = omega arith;
+          rest = w .rest ∙ rw (drop-cons records i none (omega arith), passed e p, add-one);
+        }
 
   pub sweep-ends : n ≤ i → true ≡ all
-  sweep-ends h = let past : length records ≤ i = omega arith in rw (w .2, drop-of-length-le records past)
+  sweep-ends h = let past : length records ≤ i = omega arith in rw (w .rest, drop-of-length-le records past)
 
--- the same where the test is that each record's id stands in a table as often as it belongs there
-module _ {A : Type 0} (belongs : A → Bool) (records : List A) (l : List ℕ) where
-  abbrev test : ℕ → A → Bool
-  test x r = eqb (count x l) (one (belongs r))
+-- each id stands in the table l as often as its record belongs there
+abbrev standsRight : {A : Type 0} → (A → Bool) → List ℕ → ℕ → A → Bool
+standsRight belongs l x r = eqb (count x l) (one (belongs r))
 
-  abbrev pub Stand : ℕ → ℕ → Type 0
-  Stand n i = Sweep (isPlaced belongs records l) test records n i
+-- the same where that is the test
+pub record Stand {A : Type 0} (belongs : A → Bool) (records : List A) (l : List ℕ) (n i : ℕ) : Type 0 where
+  pub sweep : Sweep (isPlaced belongs records l) (standsRight belongs l) records n i
 
+module _ {A : Type 0} (belongs : A → Bool) (records : List A) (l : List ℕ) {n : ℕ} (full : length records ≡ n) where
   -- b says whether every id in the table is a record's
-  module _ {n : ℕ} (full : length records ≡ n) {b : Bool} (e : b ≡ below n l) where
+  module _ {b : Bool} (e : b ≡ below n l) where
     pub stand-refused : not b ≡ true → false ≡ isPlaced belongs records l
     unfolding isPlaced
     stand-refused p = rw (full, refused e p)
 
-    pub stand-starts : not b ≡ false → Stand n 0
+    pub stand-starts : not b ≡ false → Stand belongs records l n 0
     unfolding isPlaced
-    stand-starts p = (full, omega arith, rw (full, passed e p))
+    stand-starts p = record { sweep = sweep-starts full (rw (full, passed e p)) }
 
-  module _ (none : A) {n : ℕ} (i : ℕ) (w : Stand n i) where
-    -- the next one stands there `times`, and ought to `due`
-    module _ (h : i < n) {times due : ℕ} {b : Bool} (e : times ≡ count i l) (d : due ≡ one b) (f : b ≡ belongs (getD records i none)) where
-      pub stand-stops : (times ≡ due → ⊥) → false ≡ isPlaced belongs records l
-      stand-stops p = sweep-stops test none records i w h (rw (← e, ← f, ← d) (ne-eqb _ _ p))
+module _ {A : Type 0} {belongs : A → Bool} {records : List A} {l : List ℕ} {n i : ℕ} (none : A) (w : Stand belongs records l n i) where
+  -- the next one stands there `times`, and ought to `due`
+  module _ (h : i < n) {times due : ℕ} {b : Bool} (e : times ≡ count i l) (d : due ≡ one b) (f : b ≡ belongs (getD records i none)) where
+    right : (x : Bool) → eqb times due ≡ x → standsRight belongs l i (getD records i none) ≡ x
+    right x p = rw (← e, ← f, ← d) p
 
-      pub stand-goes : times ≡ due → Stand n (i + 1)
-      stand-goes p = sweep-goes test none records i w h (rw (← e, ← f, ← d) (eq-eqb _ _ p))
+    pub stand-stops : (times ≡ due → ⊥) → false ≡ isPlaced belongs records l
+    stand-stops p = sweep-stops none (w .sweep) h {b = false} (sym (right false (ne-eqb _ _ p))) refl
 
-    pub stand-ends : n ≤ i → true ≡ isPlaced belongs records l
-    stand-ends h = sweep-ends test none records i w h
+    pub stand-goes : times ≡ due → Stand belongs records l n (i + 1)
+    stand-goes p = record { sweep = sweep-goes none (w .sweep) h {b = true} (sym (right true (eq-eqb _ _ p))) refl }
+
+  pub stand-ends : n ≤ i → true ≡ isPlaced belongs records l
+  stand-ends h = sweep-ends none (w .sweep) h

@@ -29,17 +29,35 @@ put-byte-requires c κs = search needs
 same-length : tie.Need-same-length
 same-length c = search needs
 
+-- ---- the steps before a step, by their names
+abbrev start-of : tie.After-decimal → tie.Start
+start-of c = c .before .before .before
+
+abbrev decimal-of : tie.After-put-all → tie.After-decimal
+decimal-of c = c .before .before .before
+
+abbrev put-all-of : tie.After-put-byte → tie.After-put-all
+put-all-of c = c .before .before .before .before
+
+-- the digits that `io` wrote
+digits : (c : tie.After-decimal) → take (c .decimal .result) (c .decimal .last .1 .0) ≡ decimal (start-of c .args .n)
+digits c =
+    let small : start-of c .args .n < 2 ^ 64 = search needs in
+    c .decimal .ensures .1 .1 ∙ spelt _ _ (c .decimal .ensures .1 .0) small
+
+-- they stand in the buffer
+written : (c : tie.After-put-all)
+    → let a = start-of (decimal-of c) .args in
+    pen (c .put-all .last .0) (c .put-all .result) ≡ puts (pen (a .out .now) (a .at)) (decimal (a .n))
+written c = let a = start-of (decimal-of c) .args in c .put-all .ensures ∙ ap (puts (pen (a .out .now) (a .at))) (digits (decimal-of c))
+
 returns : tie.Need-returns
 unfolding puts
 returns c =
-    let a = c .before .before .before .before .before .before .before .before .before .before .before .before .args in
-    let p = c .before .before .before .before .before .before .put-all in
-    let d = c .before .before .before .before .before .before .before .before .before .decimal in
-    let small : a .n < 2 ^ 64 = search needs in
-    let e : take (d .result) (d .last .1 .0) ≡ decimal (a .n) = d .ensures .1 .1 ∙ spelt _ _ (d .ensures .1 .0) small in
-    let w = pen (a .out .now) (a .at) in
-    c .before .before .put-byte .ensures ∙ ap (λ (q : Pen). put q (a .end)) (p .ensures ∙ ap (puts w) e)
-    ∙ sym (puts-append w (decimal (a .n)) (a .end ∷ []))
+    let b = c .before .before in
+    let a = start-of (decimal-of (put-all-of b)) .args in
+    b .put-byte .ensures ∙ ap (λ (p : Pen). put p (a .end)) (written (put-all-of b))
+    ∙ sym (puts-append (pen (a .out .now) (a .at)) (decimal (a .n)) (a .end ∷ []))
 
 pub put-number-spec : {M : Type 1} → statement M
 put-number-spec =

@@ -29,27 +29,31 @@ rejoined-places-requires c κs = search needs
 rejoined-time-requires : tie.Need-rejoined-time-requires
 rejoined-time-requires c κs = search needs
 
+-- ---- the steps before a step, by their names
+abbrev else-of : tie.After-rejoined-places → tie.Else1
+else-of c = c .before .before .before .before .before
+
 returns-2 : tie.Need-returns-2
 unfolding relocate
 returns-2 c =
-    let a = c .before .before .before .before .before .before .before .before .before .before .args in
+    let places = c .before .before .before .before in
+    let a = else-of places .before .args in
     rw (
-      lt-ltb (a .id) 32 (c .before .before .before .before .before .before .before .before .before .if1 .left),
-      ne-eqb (threadIn (a .p)
-          (a .id) .ticks) (a .r .ticks) (λ e. omega (arith, c .before .if2 .taken)),
-      c .before .before .before .before .rejoined-places .ensures,
+      lt-ltb (a .id) 32 (else-of places .if1 .left),
+      ne-eqb _ _ (c .before .if2 .taken),
+      places .rejoined-places .ensures,
       c .rejoined-time .ensures,
     )
 
 returns-3 : tie.Need-returns-3
 unfolding relocate
 returns-3 c =
-    let a = c .before .before .before .before .before .before .before .before .before .args in
+    let places = c .before .before .before in
+    let a = else-of places .before .args in
     rw (
-      lt-ltb (a .id) 32 (c .before .before .before .before .before .before .before .before .if1 .left),
-      eq-eqb (threadIn (a .p)
-          (a .id) .ticks) (a .r .ticks) (omega arith),
-      c .before .before .before .rejoined-places .ensures,
+      lt-ltb (a .id) 32 (else-of places .if1 .left),
+      eq-eqb (threadIn (a .p) (a .id) .ticks) (a .r .ticks) (omega arith),
+      places .rejoined-places .ensures,
     )
 
 pub relocated-spec : {M : Type 1} → statement M

@@ -1,24 +1,17 @@
 -- `code_rules::messages_kept` meets its contract: the m messages passed are kept, so the rest decides.
-use Prim.Native.Nat.{ℕ, _-_}
+use Prim.Native.Nat.{_-_}
 use mathlib.Core.Path.{_≡_, refl, sym, _∙_}
-use mathlib.Core.Bool.{Bool}
 use native.Mathlib.Omega.{arith}
 use lib.ListN.{length, length-map}
 use borrow.Author.Needs.{needs}
-use Rattle.spec_kernel.specs.declared.records.Message.{Message}
-use Rattle.spec_kernel.specs.declared.records.Kernel.{Kernel}
 use Rattle.spec_kernel.specs.Records.{noMessage}
 use Rattle.spec_rules.specs.Tests.{messagesKept, messageKept}
-use Rattle.code_rules_records.proofs.Answers.{refused, passed}
-use Rattle.code_rules.proofs.Loops.{Sweep, sweep-stops, sweep-goes, sweep-ends}
+use Rattle.code_rules.proofs.Loops.{Sweep, sweep-starts, sweep-stops, sweep-goes, sweep-ends}
 use Rattle.code_rules.proofs.messages_kept.Statement.{statement}
 use Rattle.code_rules.proofs.messages_kept.Tie as tie
 
-abbrev test : Kernel → ℕ → Message → Bool
-test k _ r = messageKept (k .threads) r
-
 abbrev Inv-loop : tie.InvT-loop
-Inv-loop k threads m₀ m = Sweep (messagesKept k) (test k) (k .messages) 64 m
+Inv-loop k threads m₀ m = Sweep (messagesKept k) (λ _ r. messageKept (k .threads) r) (k .messages) 64 m
 
 abbrev μ-loop : tie.MeasureT-loop
 μ-loop k threads m₀ m = 64 - m
@@ -26,9 +19,10 @@ abbrev μ-loop : tie.MeasureT-loop
 loop-holds : tie.Need-loop-holds Inv-loop μ-loop
 unfolding messagesKept
 loop-holds c =
-    let k : Kernel = c .before .args .t1 in
-    let e : length (k .messages) ≡ 64 = sym (length-map (k .messages) _) ∙ c .before .good .0 .1 .1 .1 .1 .1 .0 .1 .0 .1 in
-    (e, omega arith, refl)
+    let s = c .before in
+    let l = s .args .t1 .messages in
+    let e : length l ≡ 64 = sym (length-map l _) ∙ s .good .0 .1 .1 .1 .1 .1 .0 .1 .0 .1 in
+    sweep-starts e refl
 
 mul-r : tie.Need-mul-r Inv-loop μ-loop
 mul-r c = search needs
@@ -39,12 +33,11 @@ element-copy-out-r c = search needs
 message-kept-requires : tie.Need-message-kept-requires Inv-loop μ-loop
 message-kept-requires c κs = search needs
 
+abbrev loop-of : tie.After-message-kept Inv-loop μ-loop → tie.At-loop Inv-loop μ-loop
+loop-of c = c .before .before .before
+
 returns : tie.Need-returns Inv-loop μ-loop
-unfolding messagesKept
-returns c =
-    let k : Kernel = c .before .before .before .before .before .before .args .t1 in
-    let l = c .before .before .before .before .loop in
-    sweep-stops (test k) noMessage (k .messages) (l .m) (l .inv) (omega arith) (refused (c .before .message-kept .ensures) (c .if1 .taken))
+returns c = sweep-stops noMessage (loop-of (c .before) .loop .inv) (omega arith) (c .before .message-kept .ensures) (c .if1 .taken)
 
 add-m : tie.Need-add-m Inv-loop μ-loop
 add-m c = search needs
@@ -53,18 +46,10 @@ loop-less : tie.Need-loop-less Inv-loop μ-loop
 loop-less c = search needs
 
 loop-again : tie.Need-loop-again Inv-loop μ-loop
-unfolding messagesKept
-loop-again c =
-    let k : Kernel = c .before .before .before .before .before .before .args .t1 in
-    let l = c .before .before .before .before .loop in
-    sweep-goes (test k) noMessage (k .messages) (l .m) (l .inv) (omega arith) (passed (c .before .message-kept .ensures) (c .if1 .left))
+loop-again c = sweep-goes noMessage (loop-of (c .before) .loop .inv) (omega arith) (c .before .message-kept .ensures) (c .if1 .left)
 
 returns-2 : tie.Need-returns-2 Inv-loop μ-loop
-unfolding messagesKept
-returns-2 c =
-    let k : Kernel = c .before .before .before .args .t1 in
-    let l = c .before .loop in
-    sweep-ends (test k) noMessage (k .messages) (l .m) (l .inv) (omega arith)
+returns-2 c = sweep-ends noMessage (c .before .loop .inv) (omega arith)
 
 pub messages-kept-spec : {M : Type 1} → statement M
 messages-kept-spec =

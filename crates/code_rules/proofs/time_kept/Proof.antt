@@ -1,8 +1,8 @@
 -- `code_rules::time_kept` meets its contract: the first test that fails answers, and the last where none did.
-use mathlib.Core.Bool.{and-true}
 use borrow.Author.Needs.{needs}
 use Rattle.spec_rules.specs.Tests.{timeKept, inTime}
 use Rattle.code_rules_records.proofs.Answers.{refused, passed}
+use Rattle.code_rules_records.proofs.Runs.{stops, goes, ends}
 use Rattle.code_rules.proofs.time_kept.Statement.{statement}
 use Rattle.code_rules.proofs.time_kept.Tie as tie
 
@@ -11,7 +11,7 @@ is-tidy-requires c κs = search needs
 
 returns : tie.Need-returns
 unfolding timeKept
-returns c = rw (refused (c .before .is-tidy .ensures) (c .if1 .taken))
+returns c = stops _ (refused (c .before .is-tidy .ensures) (c .if1 .taken))
 
 time-stands-requires : tie.Need-time-stands-requires
 time-stands-requires c κs = search needs
@@ -20,7 +20,7 @@ returns-2 : tie.Need-returns-2
 unfolding timeKept
 returns-2 c =
     let b = c .before .before in
-    rw (passed (b .before .is-tidy .ensures) (b .if1 .left), refused (c .before .time-stands .ensures) (c .if2 .taken))
+    goes (passed (b .before .is-tidy .ensures) (b .if1 .left)) (stops _ (refused (c .before .time-stands .ensures) (c .if2 .taken)))
 
 in-order-requires : tie.Need-in-order-requires
 in-order-requires c κs = search needs
@@ -28,13 +28,10 @@ in-order-requires c κs = search needs
 returns-3 : tie.Need-returns-3
 unfolding timeKept inTime
 returns-3 c =
-    let b = c .before .before .before in
-    rw (
-      passed (b .before .is-tidy .ensures) (b .if1 .left),
-      passed (c .before .before .time-stands .ensures) (c .before .if2 .left),
-      and-true,
-    )
-    (c .in-order .ensures)
+    let d = c .before in
+    let b = d .before .before in
+    goes (passed (b .before .is-tidy .ensures) (b .if1 .left))
+    (goes (passed (d .before .time-stands .ensures) (d .if2 .left)) (ends (c .in-order .ensures)))
 
 pub time-kept-spec : {M : Type 1} → statement M
 time-kept-spec =

@@ -1,32 +1,42 @@
 -- `code_rules_records::is_no_semaphore` meets its contract: the first field that is not 0 answers, and the last where none did.
-use mathlib.Core.Bool.{and-true}
+use Prim.Native.Nat.{ℕ}
+use mathlib.Core.Path.{_≡_, refl}
+use mathlib.Core.Bool.{false}
+use mathlib.Core.List.{List, [], _∷_}
 use native.Mathlib.Omega.{arith}
-use borrow.Author.Tests.{eq-eqb, ne-eqb}
+use lib.Dec.{eqb}
+use lib.ListN.{getD}
+use Rattle.spec_kernel.specs.declared.records.Semaphore.{Semaphore}
 use Rattle.spec_rules.specs.Tests.{isNoSemaphore}
+use Rattle.code_rules_records.proofs.Runs.{sum, zeros-stop, zeros-end}
 use Rattle.code_rules_records.proofs.is_no_semaphore.Statement.{statement}
 use Rattle.code_rules_records.proofs.is_no_semaphore.Tie as tie
 
+module _ (r : Semaphore) where
+  abbrev fields : List ℕ
+  fields = r .count ∷ r .maximum ∷ r .ticks ∷ r .period ∷ []
+
+  -- of the fields, n are 0 and the next is not
+  stops-at : (n : ℕ) → sum n fields ≡ 0 → (getD fields n 0 ≡ 0 → ⊥) → false ≡ isNoSemaphore r
+  unfolding isNoSemaphore
+  stops-at n z h = zeros-stop n fields z h
+
+  -- the others are 0
+  last : sum 3 fields ≡ 0 → eqb (r .period) 0 ≡ isNoSemaphore r
+  unfolding isNoSemaphore
+  last z = zeros-end 3 fields z refl
+
 returns : tie.Need-returns
-unfolding isNoSemaphore
-returns c = rw (ne-eqb _ _ (c .if1 .taken))
+returns c = stops-at _ 0 refl (c .if1 .taken)
 
 returns-2 : tie.Need-returns-2
-unfolding isNoSemaphore
-returns-2 c =
-    let r = c .before .before .before .before .args .r in
-    rw (eq-eqb (r .count) 0 (omega arith), ne-eqb _ _ (c .if2 .taken))
+returns-2 c = stops-at _ 1 (omega arith) (c .if2 .taken)
 
 returns-3 : tie.Need-returns-3
-unfolding isNoSemaphore
-returns-3 c =
-    let r = c .before .before .before .before .before .before .args .r in
-    rw (eq-eqb (r .count) 0 (omega arith), eq-eqb (r .maximum) 0 (omega arith), ne-eqb _ _ (c .if3 .taken))
+returns-3 c = stops-at _ 2 (omega arith) (c .if3 .taken)
 
 returns-4 : tie.Need-returns-4
-unfolding isNoSemaphore
-returns-4 c =
-    let r = c .before .before .before .before .before .before .before .args .r in
-    rw (eq-eqb (r .count) 0 (omega arith), eq-eqb (r .maximum) 0 (omega arith), eq-eqb (r .ticks) 0 (omega arith), and-true)
+returns-4 c = last _ (omega arith)
 
 pub is-no-semaphore-spec : {M : Type 1} → statement M
 is-no-semaphore-spec = tie.close (tie.spec returns returns-2 returns-3 returns-4)

@@ -1,75 +1,81 @@
 -- `code_rules_records::live_thread_kept` meets its contract: the first test that fails answers. Where the arms of the reply meet, it is
 -- below 64 or 255.
+use Prim.Native.Nat.{ℕ, _≤_, _<_}
 use mathlib.Core.Path.{_≡_}
-use mathlib.Core.Bool.{true, _||_, and-true, or-true}
-use mathlib.Core.List.{[], _∷_}
+use mathlib.Core.Bool.{Bool, true, false, _&&_, _||_, or-true}
+use mathlib.Core.List.{List}
 use mathlib.Core.Logic.{⊎-elim}
 use native.Mathlib.Omega.{arith}
-use lib.Dec.{eqb, ltb}
-use borrow.Author.Tests.{eq-eqb, ne-eqb, lt-ltb, le-ltb, le-leb, lt-leb}
+use lib.Dec.{eqb, ltb, leb}
+use borrow.Author.Tests.{eq-eqb, ne-eqb, lt-ltb, le-ltb, le-leb, lt-leb, ltb-true}
+use borrow.Table.Steps.{cases}
 use borrow.Author.Needs.{needs}
-use Rattle.spec_rules.specs.Tests.{liveThreadKept, conditionKept, allOf}
+use Rattle.spec_kernel.specs.declared.records.Thread.{Thread}
+use Rattle.spec_kernel.specs.declared.records.Semaphore.{Semaphore}
+use Rattle.spec_kernel.specs.declared.records.Event.{Event}
+use Rattle.spec_rules.specs.Tests.{liveThreadKept, conditionKept}
+use Rattle.code_rules_records.proofs.Runs.{stops, goes, ends}
 use Rattle.code_rules_records.proofs.live_thread_kept.Statement.{statement}
 use Rattle.code_rules_records.proofs.live_thread_kept.Tie as tie
 
--- past the priorities, the rest decides
-sized : (c : tie.Else4)
-    → let a = c .before .before .before .before .before .before .before .before .args in let r = a .r in
-    liveThreadKept (a .semaphores) (a .events) (a .bits) r
-    ≡ allOf ((ltb (r .reply) 64 || eqb (r .reply) 255) ∷ conditionKept (a .semaphores) (a .events) (a .bits) (r .ticks) (r .condition) ∷ [])
-unfolding liveThreadKept
-sized c =
-    let r = c .before .before .before .before .before .before .before .before .args .r in
-    rw (
-      lt-ltb 0 (r .priority) (omega arith),
-      le-leb (r .priority) 30 (omega arith),
-      lt-ltb 0 (r .first) (omega arith),
-      le-leb
-          (r .first) 30 (omega arith),
-    )
+-- a priority is from 1 to 30: its two tests, and what the rest says
+in-range : (p : ℕ) {b rest : Bool} → (0 < p) × (p ≤ 30) → b ≡ rest → b ≡ (ltb 0 p && (leb p 30 && rest))
+in-range p h e = goes (lt-ltb 0 p (h .0)) (goes (le-leb p 30 (h .1)) e)
 
--- where the arms meet
-meets : (c : tie.Joined5)
-    → let r = c .before .before .before .before .before .before .before .before .before .before .args .r in
-    (ltb (r .reply) 64 || eqb (r .reply) 255) ≡ true
-meets c = ⊎-elim (λ w. rw (eq-eqb _ _ (w .2 .left), or-true)) (λ w. rw (lt-ltb _ _ (w .left))) (c .if5 .came)
+out-of-range : (p : ℕ) (rest : Bool) → (0 < p → 30 < p) → false ≡ (ltb 0 p && (leb p 30 && rest))
+out-of-range p rest h =
+    cases (ltb 0 p) (λ e. goes e (stops _ (lt-leb p 30 (h (ltb-true 0 p e))))) (λ e. stops _ e)
+
+module _ (semaphores : List Semaphore) (events : List Event) (bits : ℕ) (r : Thread) where
+  abbrev kept : Bool
+  kept = liveThreadKept semaphores events bits r
+
+  priority-out : (0 < r .priority → 30 < r .priority) → false ≡ kept
+  unfolding liveThreadKept
+  priority-out h = out-of-range (r .priority) _ h
+
+  module _ (p : (0 < r .priority) × (r .priority ≤ 30)) where
+    first-out : (0 < r .first → 30 < r .first) → false ≡ kept
+    unfolding liveThreadKept
+    first-out h = in-range (r .priority) p (out-of-range (r .first) _ h)
+
+    module _ (f : (0 < r .first) × (r .first ≤ 30)) where
+      reply-out : 64 ≤ r .reply → (r .reply ≡ 255 → ⊥) → false ≡ kept
+      unfolding liveThreadKept
+      reply-out h n =
+          let e : (ltb (r .reply) 64 || eqb (r .reply) 255) ≡ false = rw (le-ltb (r .reply) 64 h) (ne-eqb (r .reply) 255 n) in
+          in-range (r .priority) p (in-range (r .first) f (stops _ e))
+
+      -- the condition decides
+      rest : {b : Bool} → (ltb (r .reply) 64 || eqb (r .reply) 255) ≡ true
+          → b ≡ conditionKept semaphores events bits (r .ticks) (r .condition) → b ≡ kept
+      unfolding liveThreadKept
+      rest h e = in-range (r .priority) p (in-range (r .first) f (goes h (ends e)))
 
 returns : tie.Need-returns
-unfolding liveThreadKept
-returns c = rw (le-ltb 0 (c .before .before .args .r .priority) (omega arith))
+returns c = priority-out _ _ _ _ (λ h. omega arith)
 
 returns-2 : tie.Need-returns-2
-unfolding liveThreadKept
-returns-2 c =
-    let r = c .before .before .before .before .args .r in
-    rw (lt-ltb 0 (r .priority) (omega arith), lt-leb _ _ (c .if2 .taken))
+returns-2 c = priority-out _ _ _ _ (λ h. omega arith)
 
 returns-3 : tie.Need-returns-3
-unfolding liveThreadKept
-returns-3 c =
-    let r = c .before .before .before .before .before .before .args .r in
-    rw (lt-ltb 0 (r .priority) (omega arith), le-leb (r .priority) 30 (omega arith), le-ltb 0 (r .first) (omega arith))
+returns-3 c = first-out _ _ _ _ (omega arith, omega arith) (λ h. omega arith)
 
 returns-4 : tie.Need-returns-4
-unfolding liveThreadKept
-returns-4 c =
-    let r = c .before .before .before .before .before .before .before .before .args .r in
-    rw (
-      lt-ltb 0 (r .priority) (omega arith),
-      le-leb (r .priority) 30 (omega arith),
-      lt-ltb 0 (r .first) (omega arith),
-      lt-leb _ _
-          (c .if4 .taken),
-    )
+returns-4 c = first-out _ _ _ _ (omega arith, omega arith) (λ h. omega arith)
 
 returns-5 : tie.Need-returns-5
-returns-5 c = rw (sized (c .before .before .before .before), le-ltb _ _ (c .before .before .if5 .taken), ne-eqb _ _ (c .if6 .taken))
+returns-5 c = reply-out _ _ _ _ (omega arith, omega arith) (omega arith, omega arith) (omega arith) (c .if6 .taken)
 
 condition-kept-requires : tie.Need-condition-kept-requires
 condition-kept-requires c κs = search needs
 
+-- where the arms meet, the reply is as it should be
 returns-6 : tie.Need-returns-6
-returns-6 c = rw (sized (c .before .before .before), meets (c .before), c .condition-kept .ensures, and-true)
+returns-6 c =
+    rest _ _ _ _ (omega arith, omega arith) (omega arith, omega arith)
+    (⊎-elim (λ w. rw (eq-eqb _ _ (w .2 .left), or-true)) (λ w. rw (lt-ltb _ _ (w .left))) (c .before .if5 .came))
+    (c .condition-kept .ensures)
 
 pub live-thread-kept-spec : {M : Type 1} → statement M
 live-thread-kept-spec =

@@ -1,9 +1,53 @@
 -- `code_notes_back::state_back::before_at` meets its contract, field by field.
+use Prim.Native.Nat.{ℕ}
+use mathlib.Core.Path.{_≡_}
+use mathlib.Core.List.{List}
+use Rattle.spec_kernel.specs.declared.records.Semaphore.{Semaphore}
+use Rattle.spec_kernel.specs.declared.records.Event.{Event}
+use Rattle.spec_kernel.specs.declared.records.Kernel.{Kernel}
+use Rattle.spec_moves.specs.declared.parts.Threads.{Threads}
+use Rattle.spec_moves.specs.declared.parts.Posts.{Posts}
+use Rattle.spec_moves.specs.Standing.{threadsOf, postsOf}
+use Rattle.spec_calls.specs.declared.call.Call.{Call}
+use Rattle.spec_notes.specs.Back.{Sections, semaphoresBefore, eventsBefore, bitsBefore, earlier}
 use Rattle.code_notes_frame.specs.Meant.{sectionsMeant}
-use Rattle.code_notes_back.specs.Restored.{beforeAt}
+use Rattle.code_notes_back.specs.Restored.{threadsBack, postsBack, beforeAt}
 use borrow.Author.Needs.{needs}
 use Rattle.code_notes_back.proofs.state_back.before_at.Statement.{statement}
 use Rattle.code_notes_back.proofs.state_back.before_at.Tie as tie
+
+-- the state that the parts make, of the bytes of their sections
+together : (c : Call) (k : Kernel) (x : Sections) (u v runner : ℕ) {old t : Threads} {m : Posts}
+    {semaphores : List Semaphore} {events : List Event} {bits uptime : ℕ} {ts ss es ms : List ℕ}
+    → old ≡ threadsOf k
+    → ts ≡ x .threads
+    → ss ≡ x .semaphores
+    → es ≡ x .events
+    → ms ≡ x .messages
+    → t ≡ threadsBack c old ts
+    → m ≡ postsBack c (k .runner) (postsOf k) ms
+    → semaphores ≡ semaphoresBefore c (k .semaphores) ss
+    → events ≡ eventsBefore (k .events) es
+    → bits ≡ bitsBefore c (k .bits) es
+    → uptime ≡ earlier c (k .uptime)
+    → record {
+      threads = t .records;
+      semaphores = semaphores;
+      events = events;
+      messages = m .records;
+      places = t .places;
+      time = t .time;
+      posted = m .posted;
+      bits = bits;
+      uptime = uptime;
+      unscheduled = u;
+      critical = v;
+      runner = runner;
+    }
+    ≡ beforeAt c k x u v runner
+unfolding beforeAt
+together c k x u v runner old ts ss es ms threads posts semaphores events bits uptime =
+    rw (threads, posts, semaphores, events, bits, uptime, old, ts, ss, es, ms)
 
 threads-of-requires : tie.Need-threads-of-requires
 threads-of-requires c κs = search needs
@@ -38,22 +82,51 @@ bits-before-requires c κs = search needs
 earlier-requires : tie.Need-earlier-requires
 earlier-requires c κs = search needs
 
+-- ---- the steps before the last, by what they give
+abbrev events-of : tie.After-earlier → tie.After-events-before
+events-of c = c .before .before
+
+abbrev semaphore-bytes-of : tie.After-earlier → tie.After-part-of4
+semaphore-bytes-of c = events-of c .before .before
+
+-- the tables of both parts that move
+abbrev tables-of : tie.After-earlier → tie.After-threads
+tables-of c = semaphore-bytes-of c .before .before .before .before .before
+
+abbrev event-bytes-of : tie.After-earlier → tie.After-part-of3
+event-bytes-of c = tables-of c .before .before .before
+
+abbrev posts-of : tie.After-earlier → tie.After-posts-back
+posts-of c = event-bytes-of c .before
+
+abbrev message-bytes-of : tie.After-earlier → tie.After-part-of2
+message-bytes-of c = posts-of c .before
+
+abbrev threads-of : tie.After-earlier → tie.After-threads-back
+threads-of c = message-bytes-of c .before
+
+abbrev thread-bytes-of : tie.After-earlier → tie.After-part-of
+thread-bytes-of c = threads-of c .before
+
+abbrev start-of : tie.After-earlier → tie.Start
+start-of c = thread-bytes-of c .before .before .before .before .before
+
 returns : tie.Need-returns
-unfolding beforeAt sectionsMeant
+unfolding sectionsMeant
 returns c =
-    rw (
-      c .earlier .ensures,
-      c .before .bits-before .ensures,
-      c .before .before .events-before .ensures,
-      c .before .before .before .semaphores-before .ensures,
-      c .before .before .before .before .before .before .before .before .before .before .before .before .before .posts-back .ensures,
-      c .before .before .before .before .before .before .before .before .before .before .before .before .before .before .before .threads-back .ensures,
-      c .before .before .before .before .before .before .before .before .before .before .before .before .before .before .before .before .before .threads-of .ensures,
-      c .before .before .before .before .part-of4 .ensures,
-      c .before .before .before .before .before .before .before .before .before .before .before .before .part-of3 .ensures,
-      c .before .before .before .before .before .before .before .before .before .before .before .before .before .before .part-of2 .ensures,
-      c .before .before .before .before .before .before .before .before .before .before .before .before .before .before .before .before .part-of .ensures,
-    )
+    let a = start-of c .args in
+    together (a .c) (a .k) (sectionsMeant (a .f) (a .note .now)) (a .u) (a .v) (a .runner)
+    (thread-bytes-of c .before .threads-of .ensures)
+    (thread-bytes-of c .part-of .ensures)
+    (semaphore-bytes-of c .part-of4 .ensures)
+    (event-bytes-of c .part-of3 .ensures)
+    (message-bytes-of c .part-of2 .ensures)
+    (threads-of c .threads-back .ensures)
+    (posts-of c .posts-back .ensures)
+    (events-of c .before .semaphores-before .ensures)
+    (events-of c .events-before .ensures)
+    (c .before .bits-before .ensures)
+    (c .earlier .ensures)
 
 pub before-at-spec : {M : Type 1} → statement M
 before-at-spec =

@@ -1,5 +1,5 @@
--- `code_rules::tables::posts_stand` meets its contract: each of the m messages passed stands there as often as it is queued, so the rest
--- decides.
+-- `code_rules::tables::posts_stand` meets its contract: each of the m messages passed stands there as often as it is queued, so the
+-- rest decides.
 use Prim.Native.Nat.{_-_}
 use mathlib.Core.Path.{_≡_}
 use native.Mathlib.Omega.{arith}
@@ -18,20 +18,17 @@ Inv-loop q records m₀ m = Stand isQueued records (items q) 64 m
 abbrev μ-loop : tie.MeasureT-loop
 μ-loop q records m₀ m = 64 - m
 
+full : (c : tie.Start Inv-loop μ-loop) → length (c .args .t1) ≡ 64
+full c = search needs
+
 all-below-requires : tie.Need-all-below-requires Inv-loop μ-loop
 all-below-requires c κs = search needs
 
 returns : tie.Need-returns Inv-loop μ-loop
-returns c =
-    let a = c .before .before .args in
-    let e : length (a .t1) ≡ 64 = search needs in
-    stand-refused isQueued (a .t1) (items (a .q)) e (c .before .all-below .ensures) (c .if1 .taken)
+returns c = stand-refused isQueued _ _ (full (c .before .before)) (c .before .all-below .ensures) (c .if1 .taken)
 
 loop-holds : tie.Need-loop-holds Inv-loop μ-loop
-loop-holds c =
-    let a = c .before .before .args in
-    let e : length (a .t1) ≡ 64 = search needs in
-    stand-starts isQueued (a .t1) (items (a .q)) e (c .before .all-below .ensures) (c .if1 .left)
+loop-holds c = stand-starts isQueued _ _ (full (c .before .before)) (c .before .all-below .ensures) (c .if1 .left)
 
 mul-r : tie.Need-mul-r Inv-loop μ-loop
 mul-r c = search needs
@@ -51,12 +48,17 @@ is-queued-requires c κs = search needs
 times-requires : tie.Need-times-requires Inv-loop μ-loop
 times-requires c κs = search needs
 
+abbrev counted : tie.After-times Inv-loop μ-loop → tie.After-count Inv-loop μ-loop
+counted c = c .before .before
+
+abbrev loop-of : tie.After-times Inv-loop μ-loop → tie.At-loop Inv-loop μ-loop
+loop-of c = counted c .before .before .before
+
 returns-2 : tie.Need-returns-2 Inv-loop μ-loop
 returns-2 c =
-    let a = c .before .before .before .before .before .before .before .before .before .args in
-    let l = c .before .before .before .before .before .before .loop in
-    stand-stops isQueued (a .t1) (items (a .q)) noMessage (l .m) (l .inv) (omega arith)
-    (c .before .before .before .count .ensures) (c .before .times .ensures) (c .before .before .is-queued .ensures) (λ e. omega arith)
+    let t = c .before in
+    stand-stops noMessage (loop-of t .loop .inv) (omega arith) (counted t .count .ensures) (t .times .ensures)
+    (t .before .is-queued .ensures) (λ e. omega arith)
 
 add-m : tie.Need-add-m Inv-loop μ-loop
 add-m c = search needs
@@ -66,16 +68,12 @@ loop-less c = search needs
 
 loop-again : tie.Need-loop-again Inv-loop μ-loop
 loop-again c =
-    let a = c .before .before .before .before .before .before .before .before .before .args in
-    let l = c .before .before .before .before .before .before .loop in
-    stand-goes isQueued (a .t1) (items (a .q)) noMessage (l .m) (l .inv) (omega arith)
-    (c .before .before .before .count .ensures) (c .before .times .ensures) (c .before .before .is-queued .ensures) (omega arith)
+    let t = c .before in
+    stand-goes noMessage (loop-of t .loop .inv) (omega arith) (counted t .count .ensures) (t .times .ensures)
+    (t .before .is-queued .ensures) (omega arith)
 
 returns-3 : tie.Need-returns-3 Inv-loop μ-loop
-returns-3 c =
-    let a = c .before .before .before .before .args in
-    let l = c .before .loop in
-    stand-ends isQueued (a .t1) (items (a .q)) noMessage (l .m) (l .inv) (omega arith)
+returns-3 c = stand-ends noMessage (c .before .loop .inv) (omega arith)
 
 pub posts-stand-spec : {M : Type 1} → statement M
 posts-stand-spec =
