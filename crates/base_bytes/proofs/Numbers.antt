@@ -1,12 +1,12 @@
 -- Laws on numbers as bytes: what is written reads back, and every byte is below 256.
 use Prim.Native.Nat.{ℕ, zero, suc, _+_, _*_, _/_, _^_, _<_}
 use mathlib.Core.Path.{_≡_, refl, ap}
-use mathlib.Core.List.{List, [], _∷_, _++_}
+use mathlib.Core.List.{List, _++_}
 use native.Mathlib.Nat.{pow-suc}
 use native.Mathlib.Omega.{arith}
 use lib.ListN.{length, getD, drop}
 use lib.Seq.{drop-at, getD-drop}
-use Rattle.base_bytes.specs.Bytes.{le, un, Small}
+use Rattle.base_bytes.specs.Bytes.{le, un}
 
 pub length-le : (w x : ℕ) → length (le w x) ≡ w
 unfolding le
@@ -24,15 +24,6 @@ un-le zero x r h = omega arith
 un-le (suc w) x r h =
     let p : 256 ^ suc w ≡ 256 ^ w * 256 = pow-suc 256 w in
     omega (arith, un-le w (x / 256) r (omega arith))
-
-pub small-append : (s t : List ℕ) → Small s → Small t → Small (s ++ t)
-small-append [] t p q = q
-small-append (b ∷ s) t (h, p) q = (h, small-append s t p q)
-
-pub le-small : (w x : ℕ) → Small (le w x)
-unfolding le
-le-small zero x = tt
-le-small (suc w) x = (omega arith, le-small w (x / 256))
 
 -- A number that is read from bytes fits its width.
 pub un-small : (w : ℕ) (s : List ℕ) → ((i : ℕ) → getD s i 0 < 256) → un w s < 256 ^ w

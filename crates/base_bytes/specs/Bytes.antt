@@ -1,5 +1,5 @@
 -- Numbers as bytes, the lowest first. Assumes nothing.
-use Prim.Native.Nat.{ℕ, zero, suc, _+_, _*_, _/_, _%_, _<_}
+use Prim.Native.Nat.{ℕ, zero, suc, _+_, _*_, _/_, _%_}
 use mathlib.Core.List.{List, [], _∷_}
 use mathlib.Core.Bool.{Bool, true, false, _&&_}
 use lib.Dec.{eqb}
@@ -20,8 +20,3 @@ unfoldable pub begins : List ℕ → List ℕ → Bool
 begins [] s = true
 begins (b ∷ bytes) [] = false
 begins (b ∷ bytes) (x ∷ s) = eqb x b && begins bytes s
-
--- Every number of the list is a byte.
-abbrev pub Small : List ℕ → Type 0
-Small [] = Unit {0}
-Small (b ∷ s) = (b < 256) × Small s

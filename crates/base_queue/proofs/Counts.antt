@@ -4,14 +4,13 @@ use mathlib.Core.Path.{_≡_, refl, sym, ap}
 use mathlib.Core.Bool.{Bool, true, false, cond, _&&_, and-comm, and-eq-true-iff}
 use mathlib.Core.List.{List, [], _∷_, _++_}
 use Prim.Native.Nat.{ℕ, zero, suc, _+_, _≤_, _<_}
-use native.Mathlib.Numerals.{add-one}
 use native.Mathlib.Omega.{arith}
 use lib.ListN.{length, take, drop, getD, take-append-drop}
 use lib.Dec.{eqb, ltb}
 use borrow.Author.Tests.{eqb-true, eqb-false, eq-eqb, ne-eqb, ltb-true, ltb-false, not-true}
 use borrow.Table.Steps.{cases}
 use Rattle.base_queue.specs.Lists.{keep, everyFrom, isNot, without, count, placeOf, withAt, behind, below}
-use Rattle.base_queue.proofs.Lists.{keep-append, count-append, length-withAt}
+use Rattle.base_queue.proofs.Lists.{keep-append, count-append}
 use Rattle.base_queue.specs.Tables.{placeBehind}
 
 -- the test of a number with itself
@@ -176,10 +175,6 @@ module _ (after : ℕ → Bool) (x : ℕ) (l : List ℕ) where
   -- the others as often as before
   pub count-behind-other : {u : ℕ} → (u ≡ x → ⊥) → count u (behind after x l) ≡ count u l
   count-behind-other h = rw (behind-place after x l, count-withAt-other)
-
-  -- one more
-  pub length-behind : length (behind after x l) ≡ suc (length l)
-  length-behind = rw (behind-place after x l, length-withAt x (placeBehind after l) l, add-one)
 
   -- a test that does not hold of x does not see it come
   pub keep-behind-past : (f : ℕ → Bool) → f x ≡ false → keep f (behind after x l) ≡ keep f l

@@ -2,26 +2,12 @@
 use Prim.Native.Nat.{ℕ, zero, suc, _≤_}
 use mathlib.Core.Path.{_≡_, refl, sym, ap, _∙_}
 use mathlib.Core.List.{List, map}
-use native.Mathlib.Omega.{arith}
-use lib.Dec.{eqb}
 use lib.ListN.{getD, set, replicate, List·getD-map}
 use lib.Seq.{getD-set-other}
-use borrow.Author.Tests.{eqb-true, eqb-false}
-use borrow.Table.Steps.{cases}
 use Rattle.spec_kernel.specs.declared.records.Kernel.{Kernel}
 use Rattle.spec_moves.proofs.Joins.{past-end}
 use Rattle.spec_calls.specs.declared.call.Call.{Call}
 use Rattle.spec_effects.specs.Effects.{Kind, effectsOfKinds, noKind, effect, valueOf}
-
--- n is none of 1 to m
-abbrev pub NoneOf : ℕ → ℕ → Type 0
-NoneOf n zero = Unit {0}
-NoneOf n (suc m) = NoneOf n m × (n ≡ suc m → ⊥)
-
-pub none-of : (n m : ℕ) → NoneOf n m → n ≤ m → n ≡ 0
-none-of n zero h l = omega arith
-none-of n (suc m) h l =
-    cases (eqb n (suc m)) (λ e. absurd (h .1 (eqb-true n (suc m) e))) (λ e. none-of n m (h .0) (omega (arith, eqb-false n (suc m) e)))
 
 -- the default, wherever it is read
 getD-same : {A : Type 0} (m n : ℕ) (a : A) → getD (replicate m a) n a ≡ a

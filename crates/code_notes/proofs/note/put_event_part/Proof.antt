@@ -1,19 +1,19 @@
 -- `code_notes::note::put_event_part` meets its contract: the part is written to a scratch array that is long enough, and then behind its
 -- length.
+use Prim.Native.Nat.{ℕ}
+use mathlib.Core.Path.{_≡_, ap, _∙_}
 use mathlib.Core.Bool.{cond}
-use mathlib.Core.List.{[], _∷_}
+use mathlib.Core.List.{List, [], _∷_, _++_}
+use native.Mathlib.Omega.{arith}
 use lib.Dec.{eqb}
+use lib.ListN.{replicate}
+use borrow.Author.Needs.{needs}
 use Rattle.base_bytes.proofs.Writing.{puts-append}
+use Rattle.base_bytes.specs.Pens.{pen, puts}
 use Rattle.code_notes_events.specs.EventEntries.{eventEntries}
 use Rattle.code_notes.specs.SectionsOf.{eventPart}
-use Rattle.code_notes.proofs.Sizes.{composed, events-short, event-inside}
-use Prim.Native.Nat.{_≤_}
-use mathlib.Core.Path.{_≡_, ap, sym, _∙_}
-use native.Mathlib.Omega.{arith}
-use lib.ListN.{length, take, replicate, length-replicate}
-use lib.Seq.{length-take-le}
-use Rattle.base_bytes.specs.Pens.{pen, puts}
-use borrow.Author.Needs.{needs}
+use Rattle.code_notes.proofs.Sizes.{events-short, event-inside}
+use Rattle.code_notes.proofs.ScratchParts.{Held, held-length, held-in, first-inside}
 use Rattle.code_notes.proofs.note.put_event_part.Statement.{statement}
 use Rattle.code_notes.proofs.note.put_event_part.Tie as tie
 
@@ -22,8 +22,8 @@ event-span-requires c κs = search needs
 
 cast-first : tie.Need-cast-first
 cast-first c =
-    let a = c .before .before .before .args in
-    omega (arith, event-inside (a .c), ap (λ x. x .first) (c .before .event-span .ensures))
+    let s = c .before in
+    omega (arith, first-inside (s .event-span .ensures) 8 (event-inside (s .before .before .args .c)))
 
 slice-aggregate-put-bits : tie.Need-slice-aggregate-put-bits
 slice-aggregate-put-bits c = search needs
@@ -37,31 +37,37 @@ slice-aggregate-put-events c = search needs
 put-events-requires : tie.Need-put-events-requires
 put-events-requires c κs = search needs
 
+-- ---- the steps before the part is written
+abbrev bits-of : tie.After-put-events → tie.After-put-bits
+bits-of c = c .before .before .before
+
+abbrev span-of : tie.After-put-events → tie.After-event-span
+span-of c = bits-of c .before .before .before .before .before
+
+abbrev start-of : tie.After-put-events → tie.Start
+start-of c = span-of c .before .before
+
 -- what the scratch array holds is the part
-written : (c : tie.After-put-events) → let a = c .before .before .before .before .before .before .before .before .before .before .args in
-    (c .put-events .result ≤ length (c .put-events .last .0))
-    × (take (c .put-events .result) (c .put-events .last .0) ≡ eventPart (a .c) (a .k .bits) (a .k2 .bits) (a .k .events) (a .k2 .events))
+written : (c : tie.After-put-events) → let a = start-of c .args in
+    Held (c .put-events .last .0) (c .put-events .result)
+    (eventPart (a .c) (a .k .bits) (a .k2 .bits) (a .k .events) (a .k2 .events))
 written c =
-    let a = c .before .before .before .before .before .before .before .before .before .before .args in
-    let s = c .before .before .before .before .before .before .before .before .event-span in
-    let e : pen (c .put-events .last .0) (c .put-events .result)
-    ≡ puts (pen (replicate 89 0) 0) (eventPart (a .c) (a .k .bits) (a .k2 .bits) (a .k .events) (a .k2 .events)) =
-    rw puts-append
-    (c .put-events .ensures
-    ∙ (ap (λ q. puts q (eventEntries (a .k .events) (a .k2 .events) (s .result .first) (s .result .count)))
-    (c .before .before .before .put-bits .ensures)
-    ∙ ap (λ x. puts (puts (pen (replicate 89 0) 0) (cond (eqb (a .k .bits) (a .k2 .bits)) [] (8 ∷ []))) (eventEntries (a .k .events)
-    (a .k2 .events) (x .first) (x .count))) (s .ensures))) in
-    let w =
-    composed (replicate 89 0) _ _ _ e
-    (rw length-replicate (omega (arith, events-short (a .c) (a .k .bits) (a .k2 .bits) (a .k .events) (a .k2 .events)))) in
-    (w .0, w .1)
+    let a = start-of c .args in
+    let old = a .k .events in
+    let new = a .k2 .events in
+    let bits : List ℕ = cond (eqb (a .k .bits) (a .k2 .bits)) [] (8 ∷ []) in
+    let s = span-of c .event-span in
+    let entries = eventEntries old new (s .result .first) (s .result .count) in
+    let both : pen (c .put-events .last .0) (c .put-events .result) ≡ puts (pen (replicate 89 0) 0) (bits ++ entries) =
+    rw puts-append (c .put-events .ensures ∙ ap (λ q. puts q entries) (bits-of c .put-bits .ensures)) in
+    held-in (s .ensures) 89 (λ x. bits ++ eventEntries old new (x .first) (x .count))
+    (events-short (a .c) (a .k .bits) (a .k2 .bits) old new) both
 
 array-share-prefix-scratch : tie.Need-array-share-prefix-scratch
-array-share-prefix-scratch c = written (c .before .before) .0
+array-share-prefix-scratch c = written (c .before .before) .within
 
 slice-aggregate-put-section : tie.Need-slice-aggregate-put-section
-slice-aggregate-put-section c = sym (length-take-le _ _ (written (c .before .before .before) .0))
+slice-aggregate-put-section c = held-length (written (c .before .before .before))
 
 put-section-requires : tie.Need-put-section-requires
 put-section-requires c κs = search needs
@@ -70,7 +76,9 @@ same-length : tie.Need-same-length
 same-length c = search needs
 
 returns : tie.Need-returns
-returns c = rw (← written (c .before .before .before .before .before .before) .1) (c .before .before .put-section .ensures)
+returns c =
+    let p = c .before .before in
+    rw (← written (p .before .before .before .before) .bytes) (p .put-section .ensures)
 
 pub put-event-part-spec : {M : Type 1} → statement M
 put-event-part-spec =

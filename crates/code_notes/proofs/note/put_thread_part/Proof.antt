@@ -1,19 +1,13 @@
 -- `code_notes::note::put_thread_part` meets its contract: the part is written to a scratch array that is long enough, and then behind its
 -- length.
+use borrow.Author.Needs.{needs}
+use Rattle.base_bytes.specs.Bytes.{le}
 use Rattle.spec_moves.specs.Standing.{threadsOf}
 use Rattle.spec_notes.specs.Sections.{entriesFrom}
-use Rattle.code_notes_spans.specs.Spans.{threadSpan}
 use Rattle.code_notes_threads.specs.ThreadEntries.{isChanged, entryOf}
 use Rattle.code_notes.specs.SectionsOf.{threadPart}
-use Rattle.code_notes.proofs.Sizes.{composed, threads-short}
-use Prim.Native.Nat.{_≤_}
-use mathlib.Core.Path.{_≡_, ap, sym, _∙_}
-use native.Mathlib.Omega.{arith}
-use lib.ListN.{length, take, replicate, length-replicate}
-use lib.Seq.{length-take-le}
-use Rattle.base_bytes.specs.Bytes.{le}
-use Rattle.base_bytes.specs.Pens.{pen, puts}
-use borrow.Author.Needs.{needs}
+use Rattle.code_notes.proofs.Sizes.{threads-short}
+use Rattle.code_notes.proofs.ScratchParts.{Held, held-length, held-in, nobody}
 use Rattle.code_notes.proofs.note.put_thread_part.Statement.{statement}
 use Rattle.code_notes.proofs.note.put_thread_part.Tie as tie
 
@@ -29,11 +23,9 @@ same-length c = search needs
 returns : tie.Need-returns
 unfolding le
 returns c =
-    let s = c .before .before .before .before .before .before in
-    let a = s .before .before .args in
-    let z : threadSpan (a .c) (a .k .runner) (a .value) (a .waiter) .count ≡ 0 =
-    sym (ap (λ x. x .count) (s .thread-span .ensures)) ∙ c .before .before .before .before .if1 .taken in
-    rw z (c .before .before .put-number .ensures)
+    let t = c .before .before .before .before in
+    let s = t .before .before in
+    rw (nobody (s .thread-span .ensures) (t .if1 .taken)) (c .before .before .put-number .ensures)
 
 slice-aggregate-put-threads : tie.Need-slice-aggregate-put-threads
 slice-aggregate-put-threads c = search needs
@@ -41,31 +33,33 @@ slice-aggregate-put-threads c = search needs
 put-threads-requires : tie.Need-put-threads-requires
 put-threads-requires c κs = search needs
 
+-- ---- the steps before the part is written
+abbrev else-of : tie.After-put-threads → tie.Else1
+else-of c = c .before .before .before .before .before .before
+
+abbrev span-of : tie.After-put-threads → tie.After-thread-span
+span-of c = else-of c .before .before
+
+abbrev start-of : tie.After-put-threads → tie.Start
+start-of c = span-of c .before .before
+
 -- what the scratch array holds is the part
-written : (c : tie.After-put-threads) → let a = c .before .before .before .before .before .before .before .before .before .before .args in
-    (c .put-threads .result ≤ length (c .put-threads .last .0))
-    × (take (c .put-threads .result) (c .put-threads .last .0) ≡ threadPart (a .c) (a .k .runner) (a .waiter) (threadsOf (a .k))
-    (a .k2 .threads) (a .value))
+written : (c : tie.After-put-threads) → let a = start-of c .args in
+    Held (c .put-threads .last .0) (c .put-threads .result)
+    (threadPart (a .c) (a .k .runner) (a .waiter) (threadsOf (a .k)) (a .k2 .threads) (a .value))
 written c =
-    let a = c .before .before .before .before .before .before .before .before .before .before .args in
+    let a = start-of c .args in
     let old = threadsOf (a .k) in
     let new = a .k2 .threads in
-    let e : pen (c .put-threads .last .0) (c .put-threads .result)
-    ≡ puts (pen (replicate 480 0) 0) (threadPart (a .c) (a .k .runner) (a .waiter) old new (a .value)) =
-    c .put-threads .ensures
-    ∙ ap (λ x. puts (pen (replicate 480 0) 0) (entriesFrom (isChanged (a .c) (a .k .runner) old new) (entryOf (a .c) old new) (x .first)
-    (x .count)))
-    (c .before .before .before .before .before .before .before .before .thread-span .ensures) in
-    let w =
-    composed (replicate 480 0) _ _ _ e
-    (rw length-replicate (omega (arith, threads-short (a .c) (a .k .runner) (a .waiter) old new (a .value)))) in
-    (w .0, w .1)
+    held-in (span-of c .thread-span .ensures) 480
+    (λ x. entriesFrom (isChanged (a .c) (a .k .runner) old new) (entryOf (a .c) old new) (x .first) (x .count))
+    (threads-short (a .c) (a .k .runner) (a .waiter) old new (a .value)) (c .put-threads .ensures)
 
 array-share-prefix-scratch : tie.Need-array-share-prefix-scratch
-array-share-prefix-scratch c = written (c .before .before) .0
+array-share-prefix-scratch c = written (c .before .before) .within
 
 slice-aggregate-put-section : tie.Need-slice-aggregate-put-section
-slice-aggregate-put-section c = sym (length-take-le _ _ (written (c .before .before .before) .0))
+slice-aggregate-put-section c = held-length (written (c .before .before .before))
 
 put-section-requires : tie.Need-put-section-requires
 put-section-requires c κs = search needs
@@ -74,7 +68,9 @@ same-length-2 : tie.Need-same-length-2
 same-length-2 c = search needs
 
 returns-2 : tie.Need-returns-2
-returns-2 c = rw (← written (c .before .before .before .before .before .before) .1) (c .before .before .put-section .ensures)
+returns-2 c =
+    let p = c .before .before in
+    rw (← written (p .before .before .before .before) .bytes) (p .put-section .ensures)
 
 pub put-thread-part-spec : {M : Type 1} → statement M
 put-thread-part-spec =

@@ -5,7 +5,7 @@ use mathlib.Core.List.{List}
 use lib.ListN.{drop}
 use borrow.Author.Needs.{needs}
 use borrow.Author.Tests.{eq-eqb, ne-eqb}
-use Rattle.code_notes_spans.specs.Spans.{Span, messageSpan}
+use Rattle.code_notes_spans.specs.Spans.{messageSpan}
 use Rattle.code_notes_spans.proofs.SpanCases.{Case, decided, passed, decides, messageCases, message-cases}
 use Rattle.code_notes_spans.proofs.spans.message_span.Statement.{statement}
 use Rattle.code_notes_spans.proofs.spans.message_span.Tie as tie

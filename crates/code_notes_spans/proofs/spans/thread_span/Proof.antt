@@ -5,7 +5,7 @@ use mathlib.Core.List.{List}
 use lib.ListN.{drop}
 use borrow.Author.Needs.{needs}
 use borrow.Author.Tests.{eq-eqb, ne-eqb}
-use Rattle.code_notes_spans.specs.Spans.{Span, threadSpan}
+use Rattle.code_notes_spans.specs.Spans.{threadSpan}
 use Rattle.code_notes_spans.proofs.SpanCases.{Case, decided, passed, decides, threadCases, thread-cases}
 use Rattle.code_notes_spans.proofs.spans.thread_span.Statement.{statement}
 use Rattle.code_notes_spans.proofs.spans.thread_span.Tie as tie
