@@ -1,4 +1,4 @@
-// The parts of the state that the two moves touch; their code is in `moving`.
+// The parts of the state that the two moves touch.
 use base_queue::Queue;
 use spec_kernel::records::Message;
 use spec_kernel::records::Thread;
