@@ -9,38 +9,39 @@ use lib.ListN.{length, take, drop, getD, set, replicate, length-append, length-t
 use lib.Seq.{append-snoc, set-at, take-suc, length-take-le, take-append-seam, drop-append-seam}
 use borrow.Author.Tests.{leb-true, le-leb}
 use Rattle.base_queue.specs.declared.Queue.{Queue}
-use Rattle.base_queue.specs.Queues.{items, pad, pack, isTidy, Tidy}
+use Rattle.base_queue.specs.Queues.{capacity, items, pad, pack, isTidy, Tidy}
 use Rattle.base_queue.proofs.Lists.{take-size, and-both, zeros-means, zeros-hold}
 
 -- two queues are equal by their fields
 pub queue-eq : {p q : Queue} → p .n ≡ q .n → p .at ≡ q .at → p ≡ q
 queue-eq e f = λ i. record { n = e i; at = f i }
 
-pub length-items : (q : Queue) → length (q .at) ≡ 64 → length (items q) ≤ 64
+pub length-items : (q : Queue) → length (q .at) ≡ capacity → length (items q) ≤ capacity
 length-items q e = rw length-take (omega arith)
 
 -- a loop over the n places that are taken, of which i are done
 abbrev pub Walk : List ℕ → ℕ → ℕ → Type 0
-Walk at n i = (i ≤ n) × (n ≤ 64) × (length at ≡ 64)
+Walk at n i = (i ≤ n) × (n ≤ capacity) × (length at ≡ capacity)
 
 module _ (q : Queue) (n : ℕ) (s : n ≡ length (items q)) where
-  pub walk-start : (i : ℕ) → i ≤ n → length (q .at) ≡ 64 → Walk (q .at) n i
+  pub walk-start : (i : ℕ) → i ≤ n → length (q .at) ≡ capacity → Walk (q .at) n i
   walk-start i h e = omega (arith, length-items q e)
 
   pub sized-items : items q ≡ take n (q .at)
   sized-items = sym (rw s (take-size (q .n) (q .at)))
 
 -- a store is filled from the front, by the members of a list in their order
-pub pad-push : (d : List ℕ) (k v : ℕ) → length d ≡ k → k < 64 → set (pad d) k v ≡ pad (d ++ v ∷ [])
+pub pad-push : (d : List ℕ) (k v : ℕ) → length d ≡ k → k < capacity → set (pad d) k v ≡ pad (d ++ v ∷ [])
 pad-push d k v e h =
-    let z : 64 - length d ≡ suc (63 - k) = omega arith in
-    let y : 64 - length (d ++ v ∷ []) ≡ 63 - k = rw length-append (omega arith) in
+    let z : capacity - length d ≡ suc (capacity - 1 - k) = omega arith in
+    let y : capacity - length (d ++ v ∷ []) ≡ capacity - 1 - k = rw length-append (omega arith) in
     rw (z, y, set-at d 0 _ v k e, append-snoc)
 
-pub pad-next : (t : List ℕ) (k v : ℕ) → k < length t → length t ≤ 64 → v ≡ getD t k 0 → set (pad (take k t)) k v ≡ pad (take (k + 1) t)
+pub pad-next : (t : List ℕ) (k v : ℕ) → k < length t → length t ≤ capacity → v ≡ getD t k 0
+    → set (pad (take k t)) k v ≡ pad (take (k + 1) t)
 pad-next t k v h e p = rw (add-one, take-suc t k 0 h, ← p) (pad-push (take k t) k v (length-take-le k t (omega arith)) (omega arith))
 
-pub pad-full : (l : List ℕ) → length l ≡ 64 → pad l ≡ l
+pub pad-full : (l : List ℕ) → length l ≡ capacity → pad l ≡ l
 pad-full l e = rw e (append-nil l)
 
 pub items-pack : (l : List ℕ) → items (pack l) ≡ l
@@ -53,20 +54,20 @@ pub size-tidy : (q : Queue) → Tidy q → q .n ≡ length (items q)
 size-tidy q t = ap (λ (p : Queue). p .n) (sym t)
 
 -- the test says it
-module _ (q : Queue) (e : length (q .at) ≡ 64) where
+module _ (q : Queue) (e : length (q .at) ≡ capacity) where
   pub tidy-means : isTidy q ≡ true → Tidy q
   unfolding isTidy
   tidy-means h =
       let b = and-both _ _ h in
-      let m : q .n ≤ 64 = leb-true _ _ (b .0) in
+      let m : q .n ≤ capacity = leb-true _ _ (b .0) in
       let s : length (items q) ≡ q .n = length-take-le (q .n) (q .at) (omega arith) in
-      let z : drop (q .n) (q .at) ≡ replicate (64 - q .n) 0 = zeros-means _ (b .1) ∙ rw (length-drop, e) in
+      let z : drop (q .n) (q .at) ≡ replicate (capacity - q .n) 0 = zeros-means _ (b .1) ∙ rw (length-drop, e) in
       queue-eq s (rw (s, ← z, take-append-drop))
 
   pub tidy-holds : Tidy q → isTidy q ≡ true
   unfolding isTidy
   tidy-holds t =
       let s : q .n ≡ length (items q) = size-tidy q t in
-      let z : drop (q .n) (q .at) ≡ replicate (64 - length (items q)) 0 =
+      let z : drop (q .n) (q .at) ≡ replicate (capacity - length (items q)) 0 =
       ap₂ drop s (ap (λ (p : Queue). p .at) (sym t)) ∙ drop-append-seam (items q) _ in
-      rw (le-leb (q .n) 64 (omega (arith, length-items q e)), z, zeros-hold)
+      rw (le-leb (q .n) capacity (omega (arith, length-items q e)), z, zeros-hold)

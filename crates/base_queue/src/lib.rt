@@ -1,13 +1,18 @@
-// Queues of 64 places with a length, and lists and tables of places with their laws. It knows nothing of kernels.
+// Queues with a length, and lists and tables of places with their laws. It knows nothing of kernels.
 ghost use mathlib.Core.Path.{_≡_};
 ghost use mathlib.Core.List.{[]};
 ghost use lib.ListN.{length};
 ghost use Rattle.base_queue.specs.Lists.{without, placeOf, count, firstOf, below};
 ghost use Rattle.base_queue.specs.Queues.{items, pack, front, roomFor, isTidy};
 
+// How many places a queue has.
+pub const CAPACITY: usize = 64;
+
+const LENGTHS: u8 = CAPACITY as u8;
+
 pub struct Queue {
     pub n: u8,
-    pub at: [u8; 64],
+    pub at: [u8; CAPACITY],
 }
 
 // The queue with no place taken.
@@ -16,7 +21,7 @@ pub fn empty() -> Queue
 {
     Queue {
         n: 0,
-        at: [0u8; 64],
+        at: [0u8; CAPACITY],
     }
 }
 
@@ -24,7 +29,11 @@ pub fn empty() -> Queue
 pub fn size(q: Queue) -> usize
     ensures { λ r. ⌜ r ≡ length (items q) ⌝ }
 {
-    if q.n < 64 { q.n as usize } else { 64 }
+    if q.n < LENGTHS {
+        q.n as usize
+    } else {
+        CAPACITY
+    }
 }
 
 // The first, or 255 for none.
@@ -74,7 +83,7 @@ pub fn without(q: Queue, x: u8) -> Queue
 {
     let at = q.at;
     let n = size(q);
-    let mut a = [0u8; 64];
+    let mut a = [0u8; CAPACITY];
     let mut k: usize = 0;
     let mut i: usize = 0;
     while i < n {
@@ -89,12 +98,12 @@ pub fn without(q: Queue, x: u8) -> Queue
 }
 
 // The first k places, and zeros after them.
-fn fronted(at: [u8; 64], k: usize) -> [u8; 64]
+fn fronted(at: [u8; CAPACITY], k: usize) -> [u8; CAPACITY]
     ensures { λ r. ⌜ r ≡ front k at ⌝ }
 {
-    let mut a = [0u8; 64];
+    let mut a = [0u8; CAPACITY];
     let mut i: usize = 0;
-    while i < 64 {
+    while i < CAPACITY {
         if k <= i {
             return a;
         }
@@ -110,8 +119,8 @@ pub fn with_at(q: Queue, i: usize, x: u8) -> Queue
 {
     let at = q.at;
     let n = size(q);
-    if 64 <= n {
-        return Queue { n: 64, at: at };
+    if CAPACITY <= n {
+        return Queue { n: LENGTHS, at: at };
     }
     let place = if i < n { i } else { n };
     let mut a = fronted(at, place);
@@ -127,16 +136,16 @@ pub fn with_at(q: Queue, i: usize, x: u8) -> Queue
     }
 }
 
-// Whether its length is at most 64 and its unused store 0.
+// Whether its length is within it and its unused store 0.
 pub fn is_tidy(q: Queue) -> bool
     ensures { λ r. ⌜ r ≡ isTidy q ⌝ }
 {
     let at = q.at;
-    if 64 < q.n {
+    if LENGTHS < q.n {
         return false;
     }
     let mut i = q.n as usize;
-    while i < 64 {
+    while i < CAPACITY {
         if at[i] != 0 {
             return false;
         }

@@ -1,4 +1,3 @@
-pub mod Found
 pub mod Numbers
 pub mod Recording
 pub mod Sections

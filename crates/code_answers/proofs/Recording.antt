@@ -12,10 +12,9 @@ use Rattle.base_bytes.specs.Logs.{room, noted, ends}
 use Rattle.spec_kernel.specs.declared.records.Kernel.{Kernel}
 use Rattle.spec_calls.specs.Calls.{callOf}
 use Rattle.spec_refusals.specs.Refusals.{numberOf}
-use Rattle.spec_effects.specs.Effects.{valueOf}
+use Rattle.spec_refusals.specs.Named.{valueOf}
+use Rattle.spec_notes.specs.Notes.{noteOf}
 use Rattle.spec_notes.proofs.FramesRead.{note-sizes}
-use Rattle.code_notes_spans.specs.Spans.{noteIn}
-use Rattle.code_notes_spans.proofs.SpansOfCalls.{note-in}
 use Rattle.spec_answers.specs.Steps.{answer}
 use Rattle.code_answers_given.specs.Given.{given}
 use Rattle.spec_answers.specs.Logs.{logged, stateAfter, noteFor, recorded, logAfter}
@@ -55,12 +54,12 @@ pub record Left (k : Kernel) (bytes log log′ : List ℕ) (used end v : ℕ) (u
   pub no-room : end ≡ used → logged (given v (k .runner) (u .runner) used end) k used ≡ recorded k bytes log used
   pub with-room : (end ≡ used → ⊥) → logged (given v (k .runner) (u .runner) used end) u end ≡ recorded k bytes log used
 
-pub left : (k : Kernel) (bytes log log′ : List ℕ) (used end v : ℕ) (u : Kernel) → length bytes ≡ 16 → length (k .threads) ≡ 32
+pub left : (k : Kernel) (bytes log log′ : List ℕ) (used end v : ℕ) (u : Kernel) → length bytes ≡ 16
     → numberOf k (callOf bytes) ≡ 0 → v ≡ valueOf k (callOf bytes) → u ≡ stateAfter k bytes
-    → (log′ ≡ noted log used (noteIn k bytes u v)) × (end ≡ ends log used (noteIn k bytes u v)) → Left k bytes log log′ used end v u
+    → (log′ ≡ noted log used (noteOf k bytes u)) × (end ≡ ends log used (noteOf k bytes u)) → Left k bytes log log′ used end v u
 unfolding noteFor
-left k bytes log log′ used end v u sixteen all n e s (l, d) =
-    let same : noteIn k bytes u v ≡ noteFor k bytes = rw (s, e) (note-in k bytes all n) in
+left k bytes log log′ used end v u sixteen n e s (l, d) =
+    let same : noteOf k bytes u ≡ noteFor k bytes = rw s in
     let f : end ≡ ends log used (noteFor k bytes) = d ∙ ap (ends log used) same in
     record {
       log-after = l ∙ ap (noted log used) same ∙ log-noted k bytes log used sixteen n;

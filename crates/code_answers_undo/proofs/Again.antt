@@ -6,7 +6,7 @@ use mathlib.Core.List.{List, [], _++_}
 use native.Mathlib.Omega.{arith}
 use lib.Dec.{eqb, ltb}
 use lib.ListN.{length, take, drop, replicate, length-append, length-replicate, drop-of-length-le}
-use lib.Seq.{take-at}
+use lib.Seq.{take-at, take-nil}
 use borrow.Author.Tests.{eqb-true, eq-eqb, le-leb, ltb-true, ltb-false, leb-true}
 use borrow.Table.Steps.{cases}
 use Rattle.base_bytes.specs.Bytes.{un}
@@ -16,14 +16,14 @@ use Rattle.spec_rules.specs.Tests.{keepsRules}
 use Rattle.spec_calls.specs.declared.call.Call.{Call}
 use Rattle.spec_calls.specs.Calls.{callOf}
 use Rattle.spec_refusals.specs.Refusals.{numberOf}
-use Rattle.spec_effects.specs.Effects.{valueOf}
+use Rattle.spec_refusals.specs.Named.{valueOf}
 use Rattle.spec_notes.specs.Touched.{sameRow}
 use Rattle.spec_notes.specs.Same.{sameKernel}
-use Rattle.spec_notes.specs.Back.{Sections, stateBefore}
-use Rattle.spec_notes.specs.Frames.{nothing, sections, isWhole, framesFrom, framesOf}
+use Rattle.spec_notes.specs.Notes.{sectionCount, longestNote}
+use Rattle.spec_notes.specs.Back.{stateBefore}
+use Rattle.spec_notes.specs.Frames.{nothing, sections, isWhole, areWhole, sectionBytes, framesOf}
 use Rattle.spec_notes.specs.Undo.{lastLength, hasLast, lastNote}
 use Rattle.spec_notes.specs.Undoes.{callBytes, backFrom, isDecoded, levelsFit, yieldsAgain, undoesNote, undoes}
-use Rattle.code_notes_spans.proofs.SpansOfCalls.{note-in}
 use Rattle.code_notes.proofs.BeforeLength.{note-short}
 use Rattle.code_notes_back.specs.declared.state_back.Back.{Back}
 use Rattle.code_notes_back.specs.Restored.{backOf}
@@ -32,20 +32,17 @@ use Rattle.spec_answers.specs.Steps.{answer}
 use Rattle.spec_answers.specs.Logs.{logged, stateAfter, noteFor, recorded, logAfter, undone}
 
 -- The call run again on a log of 2,048 bytes, which has room for any note: s is what comes back.
-module _ (k : Kernel) (bytes : List ℕ) (sixteen : length bytes ≡ 16) (all : length (k .threads) ≡ 32) (s : Logged)
-    (e : s ≡ recorded k bytes (replicate 2048 0) 0) where
-  room-for-any : numberOf k (callOf bytes) ≡ 0 → 0 + length (noteFor k bytes) ≤ length {A = ℕ} (replicate 2048 0)
+module _ (k : Kernel) (bytes : List ℕ) (sixteen : length bytes ≡ 16) (s : Logged)
+    (e : s ≡ recorded k bytes (replicate longestNote 0) 0) where
+  room-for-any : 0 + length (noteFor k bytes) ≤ length {A = ℕ} (replicate longestNote 0)
   unfolding noteFor
-  room-for-any n =
-      rw (length-replicate, ← note-in k bytes all n)
-      (omega (arith, note-short k bytes (stateAfter k bytes) (valueOf k (callOf bytes)) sixteen))
+  room-for-any = rw length-replicate (omega (arith, note-short k bytes (stateAfter k bytes) sixteen))
 
   pub run-refused : (s .answer .number ≡ 0 → ⊥) → eqb (numberOf k (callOf bytes)) 0 ≡ false
   unfolding recorded
   run-refused h =
       cases (eqb (numberOf k (callOf bytes)) 0)
-      (λ z. let fits = le-leb _ _ (room-for-any (eqb-true (numberOf k (callOf bytes)) 0 z)) in
-      absurd (h (ap (λ (x : Logged). x .answer .number) e ∙ rw (z, fits)))) (λ z. z)
+      (λ z. absurd (h (ap (λ (x : Logged). x .answer .number) e ∙ rw (z, le-leb _ _ room-for-any)))) (λ z. z)
 
   module _ (z : s .answer .number ≡ 0) where
     pub run-accepted : (numberOf k (callOf bytes) ≡ 0) ×
@@ -53,9 +50,7 @@ module _ (k : Kernel) (bytes : List ℕ) (sixteen : length bytes ≡ 16) (all : 
     unfolding recorded
     run-accepted =
         cases (eqb (numberOf k (callOf bytes)) 0)
-        (λ y. let n = eqb-true (numberOf k (callOf bytes)) 0 y in
-        let fits = le-leb _ _ (room-for-any n) in
-        (n, e ∙ rw (y, fits)))
+        (λ y. (eqb-true (numberOf k (callOf bytes)) 0 y, e ∙ rw (y, le-leb _ _ room-for-any)))
         (λ y. let n : numberOf k (callOf bytes) ≡ 0 = sym (ap (λ (x : Logged). x .answer .number) e ∙ rw y) ∙ z in
         absurd (false≢true (sym y ∙ eq-eqb (numberOf k (callOf bytes)) 0 n)))
 
@@ -63,17 +58,16 @@ module _ (k : Kernel) (bytes : List ℕ) (sixteen : length bytes ≡ 16) (all : 
     run-next = ap (λ (x : Logged). x .kernel) (run-accepted .1)
 
     -- the note stands at the front of the log
-    pub note-stands : (log : List ℕ) → log ≡ logAfter k bytes (replicate 2048 0) 0
+    pub note-stands : (log : List ℕ) → log ≡ logAfter k bytes (replicate longestNote 0) 0
         → (s .used ≤ length log) × (take (s .used) log ≡ noteFor k bytes) × (s .used ≡ length (noteFor k bytes))
     unfolding logAfter
     note-stands log f =
         let (n, a) = run-accepted in
         let y = eq-eqb (numberOf k (callOf bytes)) 0 n in
-        let h = room-for-any n in
         let v : s .used ≡ 0 + length (noteFor k bytes) = ap (λ (x : Logged). x .used) a in
         let u : s .used ≡ length (noteFor k bytes) = omega (arith, v) in
-        let g : log ≡ noteFor k bytes ++ drop (0 + length (noteFor k bytes)) (replicate 2048 0) =
-        f ∙ rw (y, noted-room (replicate 2048 0) 0 (noteFor k bytes) h) in
+        let g : log ≡ noteFor k bytes ++ drop (0 + length (noteFor k bytes)) (replicate longestNote 0) =
+        f ∙ rw (y, noted-room (replicate longestNote 0) 0 (noteFor k bytes) room-for-any) in
         (rw (g, length-append, u) (omega arith), rw (g, u) (take-at (noteFor k bytes) _ _ refl), u)
 
 module _ (k : Kernel) (bytes : List ℕ) (end : Kernel) (note : List ℕ) where
@@ -105,8 +99,8 @@ module _ (k : Kernel) (bytes : List ℕ) (end : Kernel) (note : List ℕ) where
             rw (l, r, n, o, and-true)
 
 -- ---- the frame
-none-whole : isWhole [] ≡ false
-unfolding isWhole un
+none-whole : areWhole sectionCount [] ≡ false
+unfolding areWhole isWhole un
 none-whole = refl
 
 module _ (k : Kernel) (note : List ℕ) where
@@ -114,14 +108,14 @@ module _ (k : Kernel) (note : List ℕ) where
   unfolding undoesNote
   note-none e = rw e
 
-  module _ (x : Sections) (e : framesOf note ≡ sections x) where
+  module _ (x : List (List ℕ)) (e : framesOf note ≡ sections x) where
     -- a note that has a frame has its call record
     pub framed-size : 16 ≤ length note
-    unfolding framesOf framesFrom
+    unfolding framesOf sectionBytes
     framed-size =
         cases (ltb (length note) 16)
         (λ b. let n : drop 16 note ≡ [] = drop-of-length-le note {i = 16} (omega (arith, ltb-true (length note) 16 b)) in
-        let f : nothing ≡ sections x = rw (n, none-whole) at e in
+        let f : nothing ≡ sections x = rw (n, take-nil, none-whole) at e in
         absurd (false≢true (ap isDecoded f))) (λ b. ltb-false (length note) 16 b)
 
     pub framed-back : backFrom k note ≡ stateBefore (callOf (callBytes note)) k x
@@ -152,7 +146,7 @@ module _ (k : Kernel) (note : List ℕ) where
       left-back h = rw (framed-undoes, h, framed-back)
 
 -- the two fields of what is read back
-pub back-parts : (c : Call) (k : Kernel) (x : Sections) (r : Back) → r ≡ backOf c k x
+pub back-parts : (c : Call) (k : Kernel) (x : List (List ℕ)) (r : Back) → r ≡ backOf c k x
     → (r .fits ≡ levelsFit (stateBefore c k x)) × (levelsFit (stateBefore c k x) ≡ true → r .kernel ≡ stateBefore c k x)
 unfolding backOf
 back-parts c k x r e = (ap (λ (b : Back). b .fits) e, λ h. ap (λ (b : Back). b .kernel) e ∙ rw h)

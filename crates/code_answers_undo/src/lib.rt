@@ -46,11 +46,11 @@ pub fn undo_note(k: Kernel, note: &[u8], before: usize, used: usize) -> Logged
         (logged (answer 0 255 (backFrom k (now (note .entry)) .runner)) (backFrom k (now (note .entry))) before)
         (logged (answer 15 255 (k .runner)) k used) ⌝ }
 {
-    let Decoded::Sections(f) = frames::frames_of(note) else {
+    let Decoded::Sections(p) = frames::frames_of(note) else {
         return refused(15, k.runner, k, used);
     };
     let bytes = last::call_bytes(note);
-    let back = state_back::state_before(call::call_of(bytes), k, note, f);
+    let back = state_back::state_before(call::call_of(bytes), k, frames::part_of(note, p));
     if !back.fits {
         return refused(15, k.runner, k, used);
     }

@@ -13,7 +13,7 @@ use Rattle.spec_kernel.specs.declared.records.Kernel.{Kernel}
 use Rattle.spec_calls.specs.declared.call.Call.{Call}
 use Rattle.spec_calls.proofs.KindRuns.{asKind}
 use Rattle.code_events.specs.Signals.{signalled}
-use Rattle.spec_effects.specs.Effects.{effectsOfKinds, noKind, effect}
+use Rattle.spec_effects.specs.Effects.{effectsOfKinds, nothing, effect}
 use Rattle.spec_effects.proofs.ByKind.{does-at}
 
 -- ---- the numbers that no arm has
@@ -77,11 +77,11 @@ left-over rest arms n m h none low high = ⊎-elim (λ o. o) (λ f. absurd (fals
 -- ---- the arms
 module _ (k : Kernel) (c : Call) {r : Kernel} where
   -- an arm does what the table has at the number of its kind
-  pub row : (n : ℕ) → c .kind ≡ n → r ≡ getD effectsOfKinds n noKind .does k c → r ≡ effect k c
+  pub row : (n : ℕ) → c .kind ≡ n → r ≡ getD effectsOfKinds n nothing k c → r ≡ effect k c
   row n e h = h ∙ does-at k c n e
 
   -- so does the one arm of the signals, which looks at the kind
-  signal : (n : ℕ) → signalled k (asKind c n) ≡ getD effectsOfKinds n noKind .does k (asKind c n)
+  signal : (n : ℕ) → signalled k (asKind c n) ≡ getD effectsOfKinds n nothing k (asKind c n)
       → r ≡ signalled k c → c .kind ≡ n → r ≡ effect k c
   signal n h s e = row n e (s ∙ rw e h)
 

@@ -9,9 +9,11 @@ use lib.ListN.{getD}
 use Rattle.spec_kernel.specs.declared.records.Event.{Event}
 use Rattle.spec_moves.specs.declared.parts.Threads.{Threads}
 use Rattle.spec_kernel.specs.Records.{noEvent}
-use Rattle.spec_kernel.specs.Places.{eventHome}
+use Rattle.spec_kernel.specs.Conditions.{ofEvents}
+use Rattle.spec_kernel.specs.Places.{home}
 use Rattle.spec_kernel.specs.Truth.{isTrue}
-use Rattle.spec_events.specs.Events.{wokenIn, workOut, workOutFrom}
+use Rattle.spec_threads.specs.Threads.{wokenIn}
+use Rattle.spec_events.specs.Events.{workOut, workOutFrom}
 
 module _ (events : List Event) (bits : ℕ) where
   -- one event more, from j on and from the first
@@ -25,7 +27,7 @@ module _ (events : List Event) (bits : ℕ) where
     one-more = rw (add-one, work-next i 0 p, zero-add, w)
 
     -- it is TRUE
-    pub work-true : isTrue bits (getD events i noEvent) ≡ true → wokenIn (eventHome i) q ≡ workOutFrom events bits 0 (i + 1) p
+    pub work-true : isTrue bits (getD events i noEvent) ≡ true → wokenIn (home ofEvents i) q ≡ workOutFrom events bits 0 (i + 1) p
     unfolding workOut
     work-true e = sym (rw (one-more, e))
 

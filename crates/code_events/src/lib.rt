@@ -1,6 +1,7 @@
 // Events and event bits: load, pend, set and clear.
 ghost use mathlib.Core.Path.{_≡_};
-ghost use Rattle.spec_events.specs.Events.{wokenIn, workOutFrom, workedOut, loadEvent, pendEvent};
+ghost use Rattle.spec_kernel.specs.Sizes.{eventCount};
+ghost use Rattle.spec_events.specs.Events.{workOutFrom, workedOut, loadEvent, pendEvent};
 ghost use Rattle.code_events.specs.Signals.{signalled};
 use code_kernel::places;
 use code_kernel_find::by_id;
@@ -9,47 +10,21 @@ use spec_calls::call::Call;
 use spec_kernel::records::Condition;
 use spec_kernel::records::Event;
 use spec_kernel::records::Kernel;
-use spec_kernel::records::Wake;
+use spec_kernel::sizes;
 use spec_moves::parts::Threads;
 
-// Everybody whose home is h wakes, in the order of the table.
-fn woken_in(p: Threads, h: u16) -> Threads
-    ensures { λ x. ⌜ x ≡ wokenIn h p ⌝ }
-{
-    let before = p.records;
-    let q = p.places;
-    let at = q.at;
-    let n = base_queue::size(q);
-    let mut next = p;
-    let mut i: usize = 0;
-    while i < n {
-        let t = at[i];
-        i += 1;
-        let mut home = places::NOWHERE;
-        if t < 32 {
-            let j = t as usize;
-            let r = before[j];
-            home = places::home_of(r);
-        }
-        if home == h {
-            next = code_threads::woken(next, t, Wake::Met);
-        }
-    }
-    next
-}
-
 // Each TRUE event wakes all its waiters, in id order.
-fn worked_in(p: Threads, events: [Event; 8], bits: u32) -> Threads
-    ensures { λ x. ⌜ x ≡ workOutFrom events bits 0 8 p ⌝ }
+fn worked_in(p: Threads, events: [Event; sizes::EVENTS], bits: u32) -> Threads
+    ensures { λ x. ⌜ x ≡ workOutFrom events bits 0 eventCount p ⌝ }
 {
     let mut next = p;
     let mut i: usize = 0;
-    while i < 8 {
+    while i < sizes::EVENTS {
         let e = events[i];
-        let h = 512 + (i as u16);
+        let h = places::OF_EVENTS + (i as u16);
         i += 1;
         if code_kernel::truth::is_true(bits, e) {
-            next = woken_in(next, h);
+            next = code_threads::woken_in(next, h);
         }
     }
     next
@@ -67,7 +42,7 @@ fn loaded(k: Kernel, c: Call) -> Kernel
     ensures { λ x. ⌜ workedOut x ≡ loadEvent k c ⌝ }
 {
     let mut next = k;
-    if c.a < 8 {
+    if c.a < sizes::EVENT_IDS {
         let i = c.a as usize;
         next.events[i] = Event {
             any: c.b == 1,

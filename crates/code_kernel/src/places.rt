@@ -5,11 +5,18 @@ use spec_kernel::records::Condition;
 use spec_kernel::records::Message;
 use spec_kernel::records::Thread;
 
+// A home is a class and an id in it. The ready lists come first, by priority; then the semaphores' queues, then the events'.
+const CLASS: u16 = 256;
+
+pub const OF_SEMAPHORES: u16 = CLASS;
+
+pub const OF_EVENTS: u16 = 2 * CLASS;
+
 // The home of a thread that stands in no list and no queue.
-pub const NOWHERE: u16 = 1024;
+pub const NOWHERE: u16 = 4 * CLASS;
 
 // The rank of an id that is no thread's: it comes after every thread.
-pub const NO_RANK: u32 = 262144;
+pub const NO_RANK: u32 = NOWHERE as u32 * 256;
 
 // The list or queue in which a thread of this record has its place.
 pub fn home_of(r: Thread) -> u16
@@ -22,8 +29,8 @@ pub fn home_of(r: Thread) -> u16
     match c {
         Condition::Ready => r.priority as u16,
         Condition::Asleep => NOWHERE,
-        Condition::ForSemaphore(i) => 256 + (i as u16),
-        Condition::ForEvent(i) => 512 + (i as u16),
+        Condition::ForSemaphore(i) => OF_SEMAPHORES + (i as u16),
+        Condition::ForEvent(i) => OF_EVENTS + (i as u16),
         Condition::ForMessage(_) => NOWHERE,
     }
 }

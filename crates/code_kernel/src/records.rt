@@ -8,6 +8,7 @@ use spec_kernel::records::Message;
 use spec_kernel::records::Semaphore;
 use spec_kernel::records::Thread;
 use spec_kernel::records::Wake;
+use spec_kernel::sizes;
 
 // The records that aren't live: all fields are 0.
 pub fn no_thread() -> Thread
@@ -61,10 +62,10 @@ pub fn fresh() -> Kernel
     };
     let none = base_queue::empty();
     Kernel {
-        threads: [no_thread(); 32],
-        semaphores: [no_semaphore(); 16],
-        events: [event; 8],
-        messages: [no_message(); 64],
+        threads: [no_thread(); sizes::THREADS],
+        semaphores: [no_semaphore(); sizes::SEMAPHORES],
+        events: [event; sizes::EVENTS],
+        messages: [no_message(); sizes::MESSAGES],
         places: none,
         time: none,
         posted: none,

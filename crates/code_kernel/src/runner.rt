@@ -5,6 +5,7 @@ ghost use Rattle.code_kernel.specs.RunnerOf.{runnerOf};
 use crate::places;
 use spec_kernel::records::Kernel;
 use spec_kernel::records::Thread;
+use spec_kernel::sizes::THREAD_IDS;
 
 // The first place, where it is in a ready list; else nobody.
 pub fn chosen(k: Kernel) -> u8
@@ -12,12 +13,16 @@ pub fn chosen(k: Kernel) -> u8
 {
     let q = k.places;
     let first = base_queue::first(q);
-    if 32 <= first {
+    if THREAD_IDS <= first {
         return 255;
     }
     let i = first as usize;
     let r = k.threads[i];
-    if places::home_of(r) < 256 { first } else { 255 }
+    if places::home_of(r) < places::OF_SEMAPHORES {
+        first
+    } else {
+        255
+    }
 }
 
 // Who runs, from the levels, who ran, the first place and its record.
@@ -30,7 +35,7 @@ pub fn runner_of(unscheduled: u8, critical: u8, runner: u8, first: u8, its: Thre
     if critical != 0 {
         return runner;
     }
-    if places::home_of(its) < 256 {
+    if places::home_of(its) < places::OF_SEMAPHORES {
         first
     } else {
         255

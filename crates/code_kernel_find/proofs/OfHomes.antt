@@ -1,23 +1,21 @@
 -- The first of a list that a test holds of: a loop that looks for it, and the first thread of a list or queue.
 use Prim.Native.Nat.{ℕ, _+_, _≤_, _<_}
-use mathlib.Core.Path.{_≡_, refl, sym, _∙_}
+use mathlib.Core.Path.{_≡_, refl, _∙_}
 use mathlib.Core.Bool.{Bool, true, false}
 use mathlib.Core.List.{List, [], _∷_}
 use native.Mathlib.Omega.{arith}
-use lib.Dec.{eqb, ltb}
+use lib.Dec.{eqb}
 use lib.ListN.{length, take, drop, getD}
-use borrow.Author.Tests.{eqb-true, ne-eqb, ltb-true, ltb-false}
-use borrow.Table.Steps.{cases}
 use Rattle.base_queue.specs.declared.Queue.{Queue}
-use Rattle.base_queue.specs.Lists.{keep, count, firstOf, isEmpty}
-use Rattle.base_queue.specs.Queues.{items}
+use Rattle.base_queue.specs.Lists.{keep, firstOf, isEmpty}
+use Rattle.base_queue.specs.Queues.{capacity, items}
 use Rattle.base_queue.proofs.Lists.{rest-next, rest-end}
 use Rattle.base_queue.proofs.Queues.{Walk, walk-start, sized-items}
-use Rattle.base_queue.proofs.Counts.{count-head, kept}
 use Rattle.spec_kernel.specs.declared.records.Thread.{Thread}
+use Rattle.spec_kernel.specs.Sizes.{threadCount}
 use Rattle.spec_kernel.specs.Records.{noThread}
 use Rattle.spec_kernel.specs.Places.{nowhere, homeOf}
-use Rattle.spec_moves.proofs.Joins.{past-end}
+use Rattle.spec_moves.proofs.Firsts.{line-empty}
 use Rattle.code_kernel_find.specs.AtHome.{firstAtHome}
 
 -- a loop that looks for the first that f holds of among the first n of a store: it is not among the first i
@@ -26,7 +24,7 @@ Search f at n i = Walk at n i × (keep f (take n at) ≡ keep f (drop i (take n 
 
 module _ (f : ℕ → Bool) (q : Queue) (n : ℕ) (s : n ≡ length (items q)) where
   -- at first nothing is passed
-  pub search-starts : length (q .at) ≡ 64 → Search f (q .at) n 0
+  pub search-starts : length (q .at) ≡ capacity → Search f (q .at) n 0
   search-starts e = (walk-start q n s 0 (omega arith) e, refl)
 
   module _ (i : ℕ) (w : Search f (q .at) n i) where
@@ -47,16 +45,6 @@ pub first-cons : (l : List ℕ) → (firstOf l ≡ 255 → ⊥) → l ≡ firstO
 first-cons [] h = absurd (h refl)
 first-cons (x ∷ l) h = refl
 
--- and a member
-pub first-member : (l : List ℕ) → (firstOf l ≡ 255 → ⊥) → 0 < count (firstOf l) l
-first-member [] h = absurd (h refl)
-first-member (x ∷ l) h = count-head x l
-
--- where 255 is no member, the first is 255 for the empty list alone
-pub first-none : (l : List ℕ) → (0 < count 255 l → ⊥) → eqb (firstOf l) 255 ≡ isEmpty l
-first-none [] h = refl
-first-none (x ∷ l) h = ne-eqb x 255 (λ e. h (rw (← e) (count-head x l)))
-
 -- u's home is h
 abbrev pub isHome : List Thread → ℕ → ℕ → Bool
 isHome threads h u = eqb (homeOf (getD threads u noThread)) h
@@ -67,17 +55,8 @@ pub first-head : (threads : List Thread) (places : Queue) (h : ℕ) → (firstAt
 unfolding firstAtHome
 first-head threads places h s = first-cons (keep (isHome threads h) (items places)) s
 
-module _ (threads : List Thread) (e : length threads ≡ 32) where
-  -- who stands in a list or queue is a thread
-  pub line-member : (l : List ℕ) {h t : ℕ} → (h ≡ nowhere → ⊥) → 0 < count t (keep (isHome threads h) l) → t < 32
-  unfolding homeOf
-  line-member l {h} {t} ne c =
-      cases (ltb t 32) (λ z. ltb-true t 32 z)
-      (λ z. absurd (ne (sym (eqb-true nowhere h (rw (past-end threads noThread e (ltb-false t 32 z)) at (kept
-      (isHome threads h) l c .0))))))
-
-  module _ (places : Queue) {h : ℕ} (b : h < 1024) where
-    -- 255 says that the list or queue is empty
-    pub first-empty : eqb (firstAtHome threads places h) 255 ≡ isEmpty (keep (isHome threads h) (items places))
-    unfolding firstAtHome
-    first-empty = first-none (keep (isHome threads h) (items places)) (λ c. omega (arith, line-member (items places) (λ z. omega arith) c))
+-- 255 says that the list or queue is empty
+pub first-empty : (threads : List Thread) → length threads ≡ threadCount → (places : Queue) {h : ℕ} → h < nowhere
+    → eqb (firstAtHome threads places h) 255 ≡ isEmpty (keep (isHome threads h) (items places))
+unfolding firstAtHome
+first-empty threads e places b = line-empty threads e (items places) b

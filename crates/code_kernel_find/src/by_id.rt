@@ -9,31 +9,35 @@ use spec_kernel::records::Event;
 use spec_kernel::records::Message;
 use spec_kernel::records::Semaphore;
 use spec_kernel::records::Thread;
+use spec_kernel::sizes;
 
-pub fn thread_at(threads: [Thread; 32], t: u16) -> Thread
+// A field of two bytes may name a thread.
+const IDS: u16 = sizes::THREADS as u16;
+
+pub fn thread_at(threads: [Thread; sizes::THREADS], t: u16) -> Thread
     ensures { λ r. ⌜ r ≡ getD threads t noThread ⌝ }
 {
-    if t < 32 {
+    if t < IDS {
         let i = t as usize;
         return threads[i];
     }
     no_thread()
 }
 
-pub fn semaphore_at(semaphores: [Semaphore; 16], i: u8) -> Semaphore
+pub fn semaphore_at(semaphores: [Semaphore; sizes::SEMAPHORES], i: u8) -> Semaphore
     ensures { λ r. ⌜ r ≡ getD semaphores i noSemaphore ⌝ }
 {
-    if i < 16 {
+    if i < sizes::SEMAPHORE_IDS {
         let j = i as usize;
         return semaphores[j];
     }
     no_semaphore()
 }
 
-pub fn event_at(events: [Event; 8], i: u8) -> Event
+pub fn event_at(events: [Event; sizes::EVENTS], i: u8) -> Event
     ensures { λ r. ⌜ r ≡ getD events i noEvent ⌝ }
 {
-    if i < 8 {
+    if i < sizes::EVENT_IDS {
         let j = i as usize;
         return events[j];
     }
@@ -44,10 +48,10 @@ pub fn event_at(events: [Event; 8], i: u8) -> Event
     }
 }
 
-pub fn message_at(messages: [Message; 64], m: u8) -> Message
+pub fn message_at(messages: [Message; sizes::MESSAGES], m: u8) -> Message
     ensures { λ r. ⌜ r ≡ getD messages m noMessage ⌝ }
 {
-    if m < 64 {
+    if m < sizes::MESSAGE_IDS {
         let i = m as usize;
         return messages[i];
     }

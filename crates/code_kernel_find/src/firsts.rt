@@ -6,8 +6,9 @@ use base_queue::Queue;
 use code_kernel::places;
 use spec_kernel::records::Message;
 use spec_kernel::records::Thread;
+use spec_kernel::sizes;
 
-pub fn first_at_home(threads: [Thread; 32], places: Queue, home: u16) -> u8
+pub fn first_at_home(threads: [Thread; sizes::THREADS], places: Queue, home: u16) -> u8
     ensures { λ r. ⌜ r ≡ firstAtHome threads places home ⌝ }
 {
     let at = places.at;
@@ -16,7 +17,7 @@ pub fn first_at_home(threads: [Thread; 32], places: Queue, home: u16) -> u8
     while i < n {
         let u = at[i] as usize;
         let mut other = places::NOWHERE;
-        if u < 32 {
+        if u < sizes::THREADS {
             let r = threads[u];
             other = places::home_of(r);
         }
@@ -38,7 +39,7 @@ fn is_for(t: u8, mask: u16, r: Message) -> bool
     code_kernel::conditions::masks(mask, r.channel)
 }
 
-pub fn next_message(messages: [Message; 64], posted: Queue, t: u8, mask: u16) -> u8
+pub fn next_message(messages: [Message; sizes::MESSAGES], posted: Queue, t: u8, mask: u16) -> u8
     ensures { λ r. ⌜ r ≡ firstFor messages posted t mask ⌝ }
 {
     let at = posted.at;
@@ -47,7 +48,7 @@ pub fn next_message(messages: [Message; 64], posted: Queue, t: u8, mask: u16) ->
     while i < n {
         let u = at[i] as usize;
         let mut mine = false;
-        if u < 64 {
+        if u < sizes::MESSAGES {
             let r = messages[u];
             mine = is_for(t, mask, r);
         }

@@ -5,6 +5,13 @@ ghost use Rattle.spec_kernel.specs.Free.{lowestFree};
 use spec_kernel::records::Message;
 use spec_kernel::records::Semaphore;
 use spec_kernel::records::Thread;
+use spec_kernel::sizes;
+
+const LAST_THREAD: usize = sizes::THREADS - 1;
+
+const LAST_SEMAPHORE: usize = sizes::SEMAPHORES - 1;
+
+const LAST_MESSAGE: usize = sizes::MESSAGES - 1;
 
 // How many records to look at: where the last one is free, the others alone. A bound that only the run knows keeps the
 // compiler from writing the loop out, after which it would copy the state record by record.
@@ -17,10 +24,10 @@ fn bound(last: bool, all: usize, others: usize) -> usize
     others
 }
 
-pub fn free_thread(threads: [Thread; 32]) -> u8
+pub fn free_thread(threads: [Thread; sizes::THREADS]) -> u8
     ensures { λ r. ⌜ r ≡ lowestFree (λ x. x .live) 0 threads ⌝ }
 {
-    let n = bound(threads[31].live, 32, 31);
+    let n = bound(threads[LAST_THREAD].live, sizes::THREADS, LAST_THREAD);
     let mut i: usize = 0;
     while i < n {
         if !threads[i].live {
@@ -28,13 +35,17 @@ pub fn free_thread(threads: [Thread; 32]) -> u8
         }
         i += 1;
     }
-    if i < 32 { i as u8 } else { 255 }
+    if i < sizes::THREADS { i as u8 } else { 255 }
 }
 
-pub fn free_semaphore(semaphores: [Semaphore; 16]) -> u8
+pub fn free_semaphore(semaphores: [Semaphore; sizes::SEMAPHORES]) -> u8
     ensures { λ r. ⌜ r ≡ lowestFree (λ x. x .live) 0 semaphores ⌝ }
 {
-    let n = bound(semaphores[15].live, 16, 15);
+    let n = bound(
+        semaphores[LAST_SEMAPHORE].live,
+        sizes::SEMAPHORES,
+        LAST_SEMAPHORE,
+    );
     let mut i: usize = 0;
     while i < n {
         if !semaphores[i].live {
@@ -42,13 +53,13 @@ pub fn free_semaphore(semaphores: [Semaphore; 16]) -> u8
         }
         i += 1;
     }
-    if i < 16 { i as u8 } else { 255 }
+    if i < sizes::SEMAPHORES { i as u8 } else { 255 }
 }
 
-pub fn free_message(messages: [Message; 64]) -> u8
+pub fn free_message(messages: [Message; sizes::MESSAGES]) -> u8
     ensures { λ r. ⌜ r ≡ lowestFree (λ x. x .live) 0 messages ⌝ }
 {
-    let n = bound(messages[63].live, 64, 63);
+    let n = bound(messages[LAST_MESSAGE].live, sizes::MESSAGES, LAST_MESSAGE);
     let mut i: usize = 0;
     while i < n {
         if !messages[i].live {
@@ -56,5 +67,5 @@ pub fn free_message(messages: [Message; 64]) -> u8
         }
         i += 1;
     }
-    if i < 64 { i as u8 } else { 255 }
+    if i < sizes::MESSAGES { i as u8 } else { 255 }
 }

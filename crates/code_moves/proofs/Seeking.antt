@@ -5,7 +5,7 @@ use mathlib.Core.List.{List}
 use native.Mathlib.Omega.{arith}
 use lib.ListN.{length, getD}
 use Rattle.base_queue.specs.declared.Queue.{Queue}
-use Rattle.base_queue.specs.Queues.{items}
+use Rattle.base_queue.specs.Queues.{capacity, items}
 use Rattle.spec_moves.proofs.Joins.{past-end, placeAbove, Seek, seek-starts, seek-stops, seek-goes, seek-ends}
 
 -- the value of member u, which past the records is that of `none`
@@ -22,7 +22,7 @@ pub record Seeks {A : Type 0} (value : A → ℕ) (none : A) (records : List A) 
 
 -- q is the queue whose store that is, and n its size
 module _ {A : Type 0} {value : A → ℕ} {none : A} {records : List A} {rank n : ℕ} (q : Queue) (s : n ≡ length (items q)) where
-  pub seeks-starts : length (q .at) ≡ 64 → Seeks value none records rank (q .at) n 0
+  pub seeks-starts : length (q .at) ≡ capacity → Seeks value none records rank (q .at) n 0
   seeks-starts e = record { passed = seek-starts _ rank q n s e }
 
   module _ {i : ℕ} (w : Seeks value none records rank (q .at) n i) where

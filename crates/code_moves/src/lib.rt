@@ -13,10 +13,11 @@ use base_queue::Queue;
 use code_kernel::places;
 use spec_kernel::records::Message;
 use spec_kernel::records::Thread;
+use spec_kernel::sizes;
 use spec_moves::parts::Threads;
 
 // How many stand before the first that ranks after `rank`.
-fn rank_place(records: [Thread; 32], q: Queue, rank: u32) -> usize
+fn rank_place(records: [Thread; sizes::THREADS], q: Queue, rank: u32) -> usize
     ensures { λ n. ⌜ n ≡ placeBehind (λ u. ltb rank (rankOf (getD records u noThread))) (items q) ⌝ }
 {
     let at = q.at;
@@ -25,7 +26,7 @@ fn rank_place(records: [Thread; 32], q: Queue, rank: u32) -> usize
     while i < n {
         let u = at[i] as usize;
         let mut other = places::NO_RANK;
-        if u < 32 {
+        if u < sizes::THREADS {
             let r = records[u];
             other = places::rank_of(r);
         }
@@ -38,7 +39,7 @@ fn rank_place(records: [Thread; 32], q: Queue, rank: u32) -> usize
 }
 
 // How many stand before the first that wakes after `ticks`.
-fn wake_place(records: [Thread; 32], q: Queue, ticks: u32) -> usize
+fn wake_place(records: [Thread; sizes::THREADS], q: Queue, ticks: u32) -> usize
     ensures { λ n. ⌜ n ≡ placeBehind (λ u. ltb ticks (getD records u noThread .ticks)) (items q) ⌝ }
 {
     let at = q.at;
@@ -47,7 +48,7 @@ fn wake_place(records: [Thread; 32], q: Queue, ticks: u32) -> usize
     while i < n {
         let u = at[i] as usize;
         let mut other: u32 = 0;
-        if u < 32 {
+        if u < sizes::THREADS {
             other = records[u].ticks;
         }
         if ticks < other {
@@ -59,7 +60,7 @@ fn wake_place(records: [Thread; 32], q: Queue, ticks: u32) -> usize
 }
 
 // How many stand before the first of a later stream.
-fn post_place(records: [Message; 64], q: Queue, stream: u32) -> usize
+fn post_place(records: [Message; sizes::MESSAGES], q: Queue, stream: u32) -> usize
     ensures { λ n. ⌜ n ≡ placeBehind (λ u. ltb stream (streamOf (getD records u noMessage))) (items q) ⌝ }
 {
     let at = q.at;
@@ -68,7 +69,7 @@ fn post_place(records: [Message; 64], q: Queue, stream: u32) -> usize
     while i < n {
         let u = at[i] as usize;
         let mut other: u32 = 0;
-        if u < 64 {
+        if u < sizes::MESSAGES {
             let r = records[u];
             other = places::stream_of(r);
         }
@@ -81,7 +82,7 @@ fn post_place(records: [Message; 64], q: Queue, stream: u32) -> usize
 }
 
 // The places with thread `id` behind its equals in the list or queue of record r, or gone where r has none.
-fn rejoined_places(records: [Thread; 32], q: Queue, id: u8, r: Thread) -> Queue
+fn rejoined_places(records: [Thread; sizes::THREADS], q: Queue, id: u8, r: Thread) -> Queue
     ensures { λ x. ⌜ x ≡ rejoined (hasHome r) (ranksAfter records r) id q ⌝ }
 {
     let out = base_queue::without(q, id);
@@ -93,7 +94,7 @@ fn rejoined_places(records: [Thread; 32], q: Queue, id: u8, r: Thread) -> Queue
 }
 
 // The time queue with thread `id` behind those that wake with it or before it, or gone where r has no ticks left.
-fn rejoined_time(records: [Thread; 32], q: Queue, id: u8, r: Thread) -> Queue
+fn rejoined_time(records: [Thread; sizes::THREADS], q: Queue, id: u8, r: Thread) -> Queue
     ensures { λ x. ⌜ x ≡ rejoined (ltb 0 (r .ticks)) (wakesAfter records r) id q ⌝ }
 {
     let out = base_queue::without(q, id);
@@ -105,7 +106,7 @@ fn rejoined_time(records: [Thread; 32], q: Queue, id: u8, r: Thread) -> Queue
 }
 
 // The posted messages with message `id` last in the channel of record r, or gone where r is held.
-pub fn rejoined_posts(records: [Message; 64], q: Queue, id: u8, r: Message) -> Queue
+pub fn rejoined_posts(records: [Message; sizes::MESSAGES], q: Queue, id: u8, r: Message) -> Queue
     ensures { λ x. ⌜ x ≡ rejoined (isQueued r) (postAfter records r) id q ⌝ }
 {
     let out = base_queue::without(q, id);
@@ -120,7 +121,7 @@ pub fn rejoined_posts(records: [Message; 64], q: Queue, id: u8, r: Message) -> Q
 pub fn relocated(p: Threads, id: u8, r: Thread) -> Threads
     ensures { λ x. ⌜ x ≡ relocate id r p ⌝ }
 {
-    if 32 <= id {
+    if sizes::THREAD_IDS <= id {
         return p;
     }
     let i = id as usize;

@@ -5,6 +5,7 @@ ghost use Rattle.spec_moves.specs.Standing.{threadsOf};
 use spec_kernel::records::Kernel;
 use spec_kernel::records::Message;
 use spec_kernel::records::Thread;
+use spec_kernel::sizes::MESSAGE_IDS;
 use spec_moves::parts::Threads;
 
 // The part that threads move in.
@@ -46,7 +47,7 @@ pub fn placed(k: Kernel, id: u8, r: Thread) -> Kernel
 pub fn filed(k: Kernel, id: u8, r: Message) -> Kernel
     ensures { λ x. ⌜ x ≡ moveMessage id r k ⌝ }
 {
-    if 64 <= id {
+    if MESSAGE_IDS <= id {
         return k;
     }
     let i = id as usize;

@@ -6,7 +6,7 @@ use native.Mathlib.Omega.{arith}
 use lib.ListN.{length, take, replicate, length-replicate}
 use lib.Seq.{length-take-le}
 use Rattle.base_bytes.specs.Pens.{pen, puts}
-use Rattle.code_notes_spans.specs.Spans.{Span}
+use Rattle.code_notes_spans.specs.Spans.{Span, inSpan}
 use Rattle.code_notes.proofs.Sizes.{composed}
 
 -- the first r bytes of an array are the part
@@ -18,16 +18,16 @@ pub record Held (m : List ℕ) (r : ℕ) (part : List ℕ) : Type 0 where
 pub held-length : {m part : List ℕ} {r : ℕ} → Held m r part → r ≡ length (take r m)
 held-length h = sym (length-take-le _ _ (h .within))
 
-pub held : (n : ℕ) {m part : List ℕ} {r : ℕ} → length part ≤ n → pen m r ≡ puts (pen (replicate n 0) 0) part → Held m r part
-held n h e =
+pub held : {n : ℕ} {m part : List ℕ} {r : ℕ} → length part ≤ n → pen m r ≡ puts (pen (replicate n 0) 0) part → Held m r part
+held {n} h e =
     let w = composed (replicate n 0) _ _ _ e (rw length-replicate h) in
     record { within = w .0; bytes = w .1 }
 
 -- ---- by the span that the code found, which is the call's
 module _ {s s′ : Span} (e : s ≡ s′) where
-  pub held-in : (n : ℕ) (part : Span → List ℕ) {m : List ℕ} {r : ℕ} → length (part s′) ≤ n
-      → pen m r ≡ puts (pen (replicate n 0) 0) (part s) → Held m r (part s′)
-  held-in n part h w = held n h (w ∙ ap (λ x. puts (pen (replicate n 0) 0) (part x)) e)
+  pub held-in : {n : ℕ} (entries : ℕ → ℕ → List ℕ) {m : List ℕ} {r : ℕ} → length (inSpan s′ entries) ≤ n
+      → pen m r ≡ puts (pen (replicate n 0) 0) (inSpan s entries) → Held m r (inSpan s′ entries)
+  held-in {n} entries h w = held h (w ∙ ap (λ x. puts (pen (replicate n 0) 0) (inSpan x entries)) e)
 
   -- no id can be touched
   pub nobody : s .count ≡ 0 → s′ .count ≡ 0

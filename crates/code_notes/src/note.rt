@@ -1,43 +1,53 @@
 // The parts of a note: the call record, five sections each behind its length, and the whole length. The call itself puts them together.
 ghost use mathlib.Core.Path.{_≡_};
+ghost use mathlib.Core.List.{_++_};
 ghost use Prim.Native.Nat.{_+_, min};
 ghost use Rattle.base_bytes.specs.Bytes.{le};
 ghost use Rattle.base_bytes.specs.Pens.{pen, puts};
 ghost use Rattle.spec_moves.specs.Standing.{threadsOf, postsOf};
-ghost use Rattle.spec_notes.specs.Notes.{section};
-ghost use Rattle.code_notes_scheduler.specs.SchedulerEntry.{levelsNoted};
-ghost use Rattle.code_notes.specs.SectionsOf.{levelsOf, threadPart, semaphorePart, eventPart, messagePart};
+ghost use Rattle.spec_notes.specs.Sections.{schedulerSection, threadEntries, semaphoreEntries, bitNoted, eventEntries, messageEntries};
+ghost use Rattle.spec_notes.specs.Notes.{section, longestNote};
+ghost use Rattle.code_notes_spans.specs.Spans.{inSpan, threadSpan, semaphoreSpan, eventSpan, messageSpan};
 use base_bytes::bytes::least;
 use base_bytes::pens;
 use code_notes_events::event_notes;
+use code_notes_events::event_rows;
+use code_notes_frame::frames::LEAST;
 use code_notes_messages::message_notes;
+use code_notes_messages::message_rows;
 use code_notes_scheduler::scheduler_notes;
 use code_notes_scheduler::scheduler_notes::Levels;
+use code_notes_scheduler::scheduler_rows;
 use code_notes_semaphores::semaphore_notes;
+use code_notes_semaphores::semaphore_rows;
 use code_notes_spans::spans;
+use code_notes_thread_rows::thread_rows;
 use code_notes_threads::thread_notes;
 use spec_calls::call::Call;
 use spec_kernel::records::Kernel;
+use spec_kernel::sizes;
 use spec_moves::parts::Posts;
 use spec_moves::parts::Threads;
 
-// The scheduler's section: its flags and three bytes.
-const LEVEL_BYTES: usize = 4;
+// The most bytes of each section.
+const LEVEL_BYTES: usize = scheduler_rows::LONGEST;
 
-// The threads' section: 32 entries of at most 15 bytes.
-const THREAD_BYTES: usize = 480;
+const THREAD_BYTES: usize = sizes::THREADS * thread_rows::LONGEST;
 
-// The semaphores' section: 16 entries of at most 15 bytes.
-const SEMAPHORE_BYTES: usize = 240;
+const SEMAPHORE_BYTES: usize = sizes::SEMAPHORES * semaphore_rows::LONGEST;
 
-// The events' section: a byte for the bits, and 8 entries of at most 11.
-const EVENT_BYTES: usize = 89;
+// One of them for the bits.
+const EVENT_BYTES: usize = 1 + sizes::EVENTS * event_rows::LONGEST;
 
-// The messages' section: 64 entries of at most 17 bytes.
-const MESSAGE_BYTES: usize = 1088;
+const MESSAGE_BYTES: usize = sizes::MESSAGES * message_rows::LONGEST;
 
 // No note is longer.
-pub const MOST: usize = 2048;
+pub const MOST: usize = LEAST
+    + LEVEL_BYTES
+    + THREAD_BYTES
+    + SEMAPHORE_BYTES
+    + EVENT_BYTES
+    + MESSAGE_BYTES;
 
 // Two bytes of length, then the bytes.
 fn put_section(log: &mut [u8], at: usize, part: &[u8]) -> usize
@@ -50,7 +60,7 @@ fn put_section(log: &mut [u8], at: usize, part: &[u8]) -> usize
 // The call record, and the scheduler's section.
 pub fn put_start(log: &mut [u8], bytes: [u8; 16], c: Call, k: Kernel, k2: Kernel) -> usize
     ensures { λ r. ⌜ pen (now (log .exit)) r
-        ≡ puts (puts (pen (now (log .entry)) 0) bytes) (section (levelsNoted c (levelsOf k) (levelsOf k2))) ⌝ }
+        ≡ puts (puts (pen (now (log .entry)) 0) bytes) (section (schedulerSection k c k2)) ⌝ }
 {
     let old = Levels {
         unscheduled: k.unscheduled,
@@ -80,7 +90,8 @@ pub fn put_thread_part(
     waiter: u8,
 ) -> usize
     ensures { λ r. ⌜ pen (now (log .exit)) r
-        ≡ puts (pen (now (log .entry)) at) (section (threadPart c (k .runner) waiter (threadsOf k) (k2 .threads) value)) ⌝ }
+        ≡ puts (pen (now (log .entry)) at)
+        (section (inSpan (threadSpan c (k .runner) value waiter) (threadEntries c (k .runner) (threadsOf k) (k2 .threads)))) ⌝ }
 {
     let s = spans::thread_span(c, k.runner, value, waiter);
     if s.count == 0 {
@@ -109,7 +120,8 @@ pub fn put_semaphore_part(
     value: u8,
 ) -> usize
     ensures { λ r. ⌜ pen (now (log .exit)) r
-        ≡ puts (pen (now (log .entry)) at) (section (semaphorePart c (k .semaphores) (k2 .semaphores) value)) ⌝ }
+        ≡ puts (pen (now (log .entry)) at)
+        (section (inSpan (semaphoreSpan c value) (semaphoreEntries c (k .semaphores) (k2 .semaphores)))) ⌝ }
 {
     let s = spans::semaphore_span(c, value);
     if s.count == 0 {
@@ -125,7 +137,8 @@ pub fn put_semaphore_part(
 
 pub fn put_event_part(log: &mut [u8], at: usize, c: Call, k: Kernel, k2: Kernel) -> usize
     ensures { λ r. ⌜ pen (now (log .exit)) r
-        ≡ puts (pen (now (log .entry)) at) (section (eventPart c (k .bits) (k2 .bits) (k .events) (k2 .events))) ⌝ }
+        ≡ puts (pen (now (log .entry)) at)
+        (section (bitNoted (k .bits) (k2 .bits) ++ inSpan (eventSpan c) (eventEntries (k .events) (k2 .events)))) ⌝ }
 {
     let s = spans::event_span(c);
     let first = s.first as u8;
@@ -146,7 +159,8 @@ pub fn put_message_part(
     value: u8,
 ) -> usize
     ensures { λ r. ⌜ pen (now (log .exit)) r
-        ≡ puts (pen (now (log .entry)) at) (section (messagePart c (k2 .runner) (postsOf k) (k2 .messages) value)) ⌝ }
+        ≡ puts (pen (now (log .entry)) at)
+        (section (inSpan (messageSpan c value) (messageEntries c (k2 .runner) (postsOf k) (k2 .messages)))) ⌝ }
 {
     let s = spans::message_span(c, value);
     if s.count == 0 {
@@ -167,7 +181,7 @@ pub fn put_message_part(
 
 // The whole length, behind all that is in front of it.
 pub fn put_end(log: &mut [u8], at: usize) -> usize
-    ensures { λ r. ⌜ pen (now (log .exit)) r ≡ puts (pen (now (log .entry)) at) (le 2 (min at 2048 + 2)) ⌝ }
+    ensures { λ r. ⌜ pen (now (log .exit)) r ≡ puts (pen (now (log .entry)) at) (le 2 (min at longestNote + 2)) ⌝ }
 {
     pens::put_number(log, at, 2, least(at, MOST) as u32 + 2)
 }

@@ -9,7 +9,7 @@ use lib.Dec.{eqb, leb}
 use lib.ListN.{length, getD, take, drop, set, drop-of-length-le}
 use lib.Seq.{drop-cons, take-suc-set, length-take-le}
 use borrow.Author.Tests.{leb-true, leb-false}
-use Rattle.base_queue.specs.Queues.{pad, pack}
+use Rattle.base_queue.specs.Queues.{capacity, pad, pack}
 use Rattle.base_queue.proofs.Lists.{and-both, rest-next}
 use Rattle.base_queue.proofs.Queues.{pad-push, queue-eq}
 use Rattle.spec_notes.specs.Back.{fillPlace, merge}
@@ -61,13 +61,13 @@ pub merge-over : (at m : List ℕ) (i : ℕ) → length at ≤ i → mergeFrom i
 merge-over at m i h = rw (drop-of-length-le at h)
 
 -- a store of 64 that holds its first i, and zeros behind them
-module _ (a : List ℕ) (i : ℕ) (e : length a ≡ 64) (p : a ≡ pad (take i a)) where
-  pub store-next : (v : ℕ) → i < 64 → set a i v ≡ pad (take (i + 1) (set a i v))
+module _ (a : List ℕ) (i : ℕ) (e : length a ≡ capacity) (p : a ≡ pad (take i a)) where
+  pub store-next : (v : ℕ) → i < capacity → set a i v ≡ pad (take (i + 1) (set a i v))
   store-next v h =
       let g : i < length a = omega arith in
       rw (add-one, take-suc-set a i v g) (ap (λ (z : List ℕ). set z i v) p ∙ pad-push (take i a) i v (length-take-le i a (omega arith)) h)
 
-  pub store-done : (t r : List ℕ) (n : ℕ) → n ≡ i → i ≤ 64 → t ≡ take i a ++ r → r ≡ [] → record { n = n; at = a } ≡ pack t
+  pub store-done : (t r : List ℕ) (n : ℕ) → n ≡ i → i ≤ capacity → t ≡ take i a ++ r → r ≡ [] → record { n = n; at = a } ≡ pack t
   store-done t r n q h f g =
       let w : t ≡ take i a = f ∙ rw g (append-nil (take i a)) in
       rw w (queue-eq (q ∙ sym (length-take-le i a (omega arith))) p)

@@ -11,31 +11,24 @@ use Rattle.spec_kernel.specs.declared.records.Kernel.{Kernel}
 use Rattle.spec_calls.specs.declared.call.Call.{Call}
 use Rattle.spec_moves.specs.States.{scheduled}
 use Rattle.spec_notes.specs.Rows.{schedulerWidths}
-use Rattle.spec_notes.specs.Predicted.{predictedScheduler}
-use Rattle.spec_notes.specs.Back.{Sections, schedulerBefore, before, stateBefore}
+use Rattle.spec_notes.specs.Notes.{schedulerIn}
+use Rattle.spec_notes.specs.Back.{levelsBefore, beforeAt, stateBefore}
 use Rattle.spec_notes.specs.Undoes.{levelsFit}
-use Rattle.code_notes_back.specs.Restored.{levelsBefore, threadsBack, postsBack, beforeAt, backOf}
+use Rattle.code_notes_back.specs.Restored.{backOf}
 
-abbrev pub levelsOf : Call → Kernel → Sections → List ℕ
-levelsOf c k x = levelsBefore c (k .unscheduled) (k .critical) (k .runner) (x .scheduler)
-
-module _ (c : Call) (k : Kernel) (x : Sections) where
+module _ (c : Call) (k : Kernel) (x : List (List ℕ)) where
   abbrev level : ℕ → ℕ
-  level i = getD (levelsOf c k x) i 0
-
-  state-at : stateBefore c k x ≡ scheduled (beforeAt c k x (level 0) (level 1) (level 2))
-  unfolding stateBefore scheduled before beforeAt threadsBack postsBack schedulerBefore levelsBefore predictedScheduler
-  state-at = refl
+  level i = getD (levelsBefore c (k .unscheduled) (k .critical) (k .runner) (schedulerIn x)) i 0
 
   fits-at : levelsFit (stateBefore c k x) ≡ (ltb (level 0) 256 && ltb (level 1) 256)
-  unfolding levelsFit stateBefore before schedulerBefore levelsBefore predictedScheduler
+  unfolding levelsFit stateBefore scheduled beforeAt
   fits-at = refl
 
   -- both levels are bytes, or one isn't
   pub back-fits : level 0 < 256 → level 1 < 256
       → backOf c k x ≡ record { fits = true; kernel = scheduled (beforeAt c k x (level 0) (level 1) (level 2)) }
-  unfolding backOf
-  back-fits p q = rw (fits-at, lt-ltb (level 0) 256 p, lt-ltb (level 1) 256 q, state-at)
+  unfolding backOf stateBefore
+  back-fits p q = rw (fits-at, lt-ltb (level 0) 256 p, lt-ltb (level 1) 256 q)
 
   pub back-first : 256 ≤ level 0 → backOf c k x ≡ record { fits = false; kernel = k }
   unfolding backOf

@@ -2,9 +2,10 @@
 ghost use mathlib.Core.Path.{_≡_};
 ghost use Prim.Native.Nat.{_<_};
 ghost use lib.ListN.{getD};
-ghost use Rattle.spec_notes.specs.Back.{earlier};
-ghost use Rattle.code_notes_frame.specs.Meant.{sectionsMeant};
-ghost use Rattle.code_notes_back.specs.Restored.{levelsBefore, threadsBack, postsBack, beforeAt, backOf};
+ghost use Rattle.spec_notes.specs.Notes.{sectionCount};
+ghost use Rattle.spec_notes.specs.Frames.{sectionsAt};
+ghost use Rattle.spec_notes.specs.Back.{levelsBefore, earlier, threadsBack, postsBack, beforeAt};
+ghost use Rattle.code_notes_back.specs.Restored.{backOf};
 use crate::table_back::put_back_all;
 use base_bytes::bytes::byte_at;
 use base_rows::rows::Row;
@@ -12,18 +13,17 @@ use base_rows::rows::row_at;
 use code_moves::states;
 use code_notes_events::event_back::bits_before;
 use code_notes_events::event_back::events_before;
-use code_notes_frame::frames::Frames;
-use code_notes_frame::frames::part_of;
+use code_notes_frame::frames;
+use code_notes_frame::frames::section_of;
 use code_notes_messages::message_back::messages_before;
 use code_notes_scheduler::scheduler_rows;
+use code_notes_scheduler::scheduler_rows::WIDTHS;
 use code_notes_semaphores::semaphore_back::semaphores_before;
 use code_notes_threads::thread_back::threads_before;
 use spec_calls::call::Call;
 use spec_kernel::records::Kernel;
 use spec_moves::parts::Posts;
 use spec_moves::parts::Threads;
-
-const WIDTHS: [u8; 8] = [1, 1, 1, 0, 0, 0, 0, 0];
 
 // A level that isn't a byte belongs to no state: then the state after is handed back.
 pub struct Back {
@@ -87,8 +87,8 @@ fn posts_back(c: Call, runner: u8, p: Posts, s: &[u8]) -> Posts
 }
 
 // Everything, with levels and runner as they are given.
-fn before_at(c: Call, k: Kernel, note: &[u8], f: Frames, u: u8, v: u8, runner: u8) -> Kernel
-    ensures { λ x. ⌜ x ≡ beforeAt c k (sectionsMeant f (now (note .entry))) u v runner ⌝ }
+fn before_at(c: Call, k: Kernel, s: &[u8], u: u8, v: u8, runner: u8) -> Kernel
+    ensures { λ x. ⌜ x ≡ beforeAt c k (sectionsAt sectionCount (now (s .entry))) u v runner ⌝ }
 {
     let messages = k.messages;
     let posted = k.posted;
@@ -96,9 +96,9 @@ fn before_at(c: Call, k: Kernel, note: &[u8], f: Frames, u: u8, v: u8, runner: u
         records: messages,
         posted: posted,
     };
-    let t = threads_back(c, states::threads_of(k), part_of(note, f.threads));
-    let m = posts_back(c, k.runner, posts, part_of(note, f.messages));
-    let bytes = part_of(note, f.events);
+    let t = threads_back(c, states::threads_of(k), section_of(s, frames::THREADS_AT));
+    let m = posts_back(c, k.runner, posts, section_of(s, frames::MESSAGES_AT));
+    let bytes = section_of(s, frames::EVENTS_AT);
     let semaphores = k.semaphores;
     let events = k.events;
     let threads = t.records;
@@ -108,7 +108,7 @@ fn before_at(c: Call, k: Kernel, note: &[u8], f: Frames, u: u8, v: u8, runner: u
     let queue = m.posted;
     Kernel {
         threads: threads,
-        semaphores: semaphores_before(c, semaphores, part_of(note, f.semaphores)),
+        semaphores: semaphores_before(c, semaphores, section_of(s, frames::SEMAPHORES_AT)),
         events: events_before(events, bytes),
         messages: records,
         places: places,
@@ -122,15 +122,16 @@ fn before_at(c: Call, k: Kernel, note: &[u8], f: Frames, u: u8, v: u8, runner: u
     }
 }
 
-pub fn state_before(c: Call, k: Kernel, note: &[u8], f: Frames) -> Back
-    ensures { λ x. ⌜ x ≡ backOf c k (sectionsMeant f (now (note .entry))) ⌝ }
+// The sections stand in s, one behind the other.
+pub fn state_before(c: Call, k: Kernel, s: &[u8]) -> Back
+    ensures { λ x. ⌜ x ≡ backOf c k (sectionsAt sectionCount (now (s .entry))) ⌝ }
 {
     let row = levels_before(
         c,
         k.unscheduled,
         k.critical,
         k.runner,
-        part_of(note, f.scheduler),
+        section_of(s, frames::SCHEDULER_AT),
     );
     let u = row.fields[0];
     let v = row.fields[1];
@@ -147,7 +148,7 @@ pub fn state_before(c: Call, k: Kernel, note: &[u8], f: Frames) -> Back
         };
     }
     let runner = (row.fields[2] % 256) as u8;
-    let old = before_at(c, k, note, f, u as u8, v as u8, runner);
+    let old = before_at(c, k, s, u as u8, v as u8, runner);
     Back {
         fits: true,
         kernel: states::scheduled(old),

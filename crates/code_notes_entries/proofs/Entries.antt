@@ -1,7 +1,7 @@
 -- The entries of a run of ids, one after another.
 use Prim.Native.Nat.{ℕ, zero, suc, _+_, _-_, _≤_, _<_}
-use mathlib.Core.Path.{_≡_, refl}
-use mathlib.Core.Bool.{Bool, true, false, not, cond, _&&_}
+use mathlib.Core.Path.{_≡_, refl, sym, _∙_}
+use mathlib.Core.Bool.{Bool, true, false, not, cond, _&&_, false≢true}
 use mathlib.Core.List.{List, [], _++_}
 use lib.ListN.{length, getD}
 use native.Mathlib.Numerals.{add-one}
@@ -10,8 +10,10 @@ use Rattle.spec_kernel.specs.Records.{noSemaphore, noEvent, noMessage}
 use Rattle.spec_moves.proofs.Joins.{past-end}
 use Rattle.spec_calls.specs.declared.call.Call.{Call}
 use Rattle.spec_refusals.specs.Refusals.{is}
-use Rattle.spec_notes.specs.Touched.{sameSemaphore, sameEvent, sameMessage, youngerSemaphore, changedSemaphore}
+use Rattle.spec_notes.specs.Touched.{sameSemaphore, sameEvent, sameMessage, youngerSemaphore}
+use Rattle.spec_notes.specs.Touched.{changedSemaphore, changedEvent, changedMessage}
 use Rattle.spec_notes.specs.Sections.{entriesFrom}
+use Rattle.spec_notes.proofs.EntriesShort.{entries-none}
 
 module _ (touched : ℕ → Bool) (entry : ℕ → List ℕ) where
   -- the first of them, and those behind it
@@ -27,18 +29,13 @@ module _ (touched : ℕ → Bool) (entry : ℕ → List ℕ) where
       go true = refl
       go false = refl
 
-  -- none, where nobody from there on is touched
-  pub entries-none : (i n : ℕ) → ((j : ℕ) → i ≤ j → touched j ≡ false) → entriesFrom touched entry i n ≡ []
-  entries-none i zero h = refl
-  entries-none i (suc n) h = rw (h i (omega arith)) (entries-none (suc i) n (λ j l. h j (omega arith)))
-
--- past the last record there is the empty one on both sides, which no call changes
-pub past-both : {A : Type 0} (changed : A → A → Bool) (old new : List A) (d : A) {n i : ℕ} → length old ≡ n → length new ≡ n
-    → changed d d ≡ false
-    → n ≤ i → (j : ℕ) → i ≤ j → changed (getD old j d) (getD new j d) ≡ false
-past-both changed old new d {n} {i} e f z h j l =
-    let b : n ≤ j = omega arith in
-    rw (past-end old d e b, past-end new d f b) z
+-- past the last record there is the empty one on both sides, which no call changes: no entry
+pub entries-past : {A : Type 0} (changed : A → A → Bool) (old new : List A) (d : A) (entry : ℕ → List ℕ) {m i : ℕ} (n : ℕ)
+    → length old ≡ m → length new ≡ m → changed d d ≡ false → m ≤ i
+    → entriesFrom (λ j. changed (getD old j d) (getD new j d)) entry i n ≡ []
+entries-past changed old new d entry {m} {i} n e f z h =
+    entries-none _ entry i n
+    (λ j l _ t. let b : m ≤ j = omega arith in false≢true (sym z ∙ (rw (past-end old d e b, past-end new d f b) at t)))
 
 pub no-semaphore : (c : Call) → changedSemaphore c noSemaphore noSemaphore ≡ false
 unfolding sameSemaphore youngerSemaphore
@@ -50,10 +47,10 @@ no-semaphore c = go (is c 1)
     go true = refl
     go false = refl
 
-pub no-event : not (sameEvent noEvent noEvent) ≡ false
+pub no-event : changedEvent noEvent noEvent ≡ false
 unfolding sameEvent
 no-event = refl
 
-pub no-message : not (sameMessage noMessage noMessage) ≡ false
+pub no-message : changedMessage noMessage noMessage ≡ false
 unfolding sameMessage
 no-message = refl

@@ -8,6 +8,7 @@ use native.Mathlib.Numerals.{add-one}
 use native.Mathlib.Omega.{arith}
 use lib.ListN.{length, getD, drop, set, replicate, length-drop, drop-of-length-le}
 use lib.Seq.{drop-cons, drop-drop, getD-drop, set-out}
+use Rattle.base_queue.specs.Queues.{capacity}
 use Rattle.base_rows.specs.Rows.{rowFrom, usedBy, sum, firstFlagged as isFlagged}
 use Rattle.spec_kernel.specs.declared.records.Semaphore.{Semaphore}
 use Rattle.spec_kernel.specs.declared.records.Event.{Event}
@@ -150,7 +151,7 @@ module _ (c : Call) (runner : ℕ) (new : List Message) where
 
   pub messages-turns : (s : List ℕ)
       → messagesBefore c runner new s ≡ flaggedFrom messageWidths messageDoes s 0
-      (record { messages = new; out = replicate 64 0; at = replicate 64 255 })
+      (record { messages = new; out = replicate capacity 0; at = replicate capacity 255 })
   unfolding messagesBefore
   messages-turns s = messages-entries (length s) s _
 

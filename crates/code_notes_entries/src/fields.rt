@@ -1,8 +1,10 @@
 // Of an old row what isn't as predicted: its flags, then those fields.
 ghost use mathlib.Core.Path.{_≡_};
 ghost use Rattle.base_bytes.specs.Pens.{pen, puts};
+ghost use Rattle.spec_notes.specs.Touched.{sameRow};
 ghost use Rattle.spec_notes.specs.Sections.{flagsAndFields, unlessPredicted};
 use base_bytes::pens;
+use base_rows::rows::Row;
 
 pub fn put_fields(
     log: &mut [u8],
@@ -31,4 +33,13 @@ pub fn put_unless_predicted(
         return at;
     }
     put_fields(log, at, widths, old, predicted)
+}
+
+// Whether two rows are the same.
+pub fn same_rows(x: Row, y: Row) -> bool
+    ensures { λ r. ⌜ r ≡ sameRow (x .fields) (y .fields) ⌝ }
+{
+    let a = x.fields;
+    let b = y.fields;
+    base_rows::rows::flags_of(a, b) == 0
 }

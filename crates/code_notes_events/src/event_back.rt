@@ -8,13 +8,13 @@ ghost use Rattle.spec_notes.specs.Rows.{eventFrom, eventWidths};
 ghost use Rattle.spec_notes.specs.Predicted.{predictedEvent};
 ghost use Rattle.spec_notes.specs.Back.{bitChanged, bitsBefore, eventsBefore};
 use crate::event_rows;
+use crate::event_rows::WIDTHS;
 use base_bytes::bytes::byte_at;
 use base_rows::rows::row_at;
 use base_rows::rows::used_by;
 use spec_calls::call::Call;
 use spec_kernel::records::Event;
-
-const WIDTHS: [u8; 8] = [1, 4, 4, 0, 0, 0, 0, 0];
+use spec_kernel::sizes::EVENTS;
 
 // A record before, of the record after and an entry whose flags stand at a place.
 fn record_at(r: Event, s: &[u8], at: usize) -> Event
@@ -38,7 +38,7 @@ fn first_entry(s: &[u8]) -> usize
 }
 
 // Entry by entry: id, flags, fields.
-pub fn events_before(new: [Event; 8], s: &[u8]) -> [Event; 8]
+pub fn events_before(new: [Event; EVENTS], s: &[u8]) -> [Event; EVENTS]
     ensures { λ x. ⌜ x ≡ eventsBefore new (now (s .entry)) ⌝ }
 {
     let mut a = new;
@@ -47,7 +47,7 @@ pub fn events_before(new: [Event; 8], s: &[u8]) -> [Event; 8]
         let i = s[p] as usize;
         let at = p + 1;
         p = at + 1 + used_by(WIDTHS, byte_at(s, at));
-        if i < 8 {
+        if i < EVENTS {
             let r = new[i];
             a[i] = record_at(r, s, at);
         }

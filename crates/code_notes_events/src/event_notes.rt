@@ -1,18 +1,16 @@
 // The entries of events, and the byte of a changed event bit.
 ghost use mathlib.Core.Path.{_≡_};
-ghost use mathlib.Core.Bool.{cond, not};
-ghost use mathlib.Core.List.{[], _∷_};
-ghost use lib.Dec.{eqb};
+ghost use mathlib.Core.Bool.{cond};
+ghost use mathlib.Core.List.{[]};
 ghost use Rattle.base_bytes.specs.Pens.{pen, puts};
-ghost use Rattle.spec_notes.specs.Touched.{sameEvent};
-ghost use Rattle.spec_notes.specs.Sections.{eventNoted};
-ghost use Rattle.code_notes_events.specs.EventEntries.{eventEntries};
+ghost use Rattle.spec_notes.specs.Touched.{changedEvent};
+ghost use Rattle.spec_notes.specs.Sections.{eventNoted, eventEntries, bitNoted};
 use crate::event_rows;
+use crate::event_rows::WIDTHS;
 use base_bytes::pens::put_byte;
 use code_notes_entries::fields::put_fields;
 use spec_kernel::records::Event;
-
-const EVENT_WIDTHS: [u8; 8] = [1, 4, 4, 0, 0, 0, 0, 0];
+use spec_kernel::sizes;
 
 // An event before: its id, and what isn't as after the call.
 fn put_event(log: &mut [u8], at: usize, i: u8, old: Event, new: Event) -> usize
@@ -23,13 +21,13 @@ fn put_event(log: &mut [u8], at: usize, i: u8, old: Event, new: Event) -> usize
     let p = put_byte(log, at, i);
     let fields = before.fields;
     let predicted = told.fields;
-    put_fields(log, p, EVENT_WIDTHS, fields, predicted)
+    put_fields(log, p, WIDTHS, fields, predicted)
 }
 
 // The same, where it changed.
 fn put_changed_event(log: &mut [u8], at: usize, i: u8, old: Event, new: Event) -> usize
     ensures { λ r. ⌜ pen (now (log .exit)) r
-        ≡ puts (pen (now (log .entry)) at) (cond (not (sameEvent old new)) (eventNoted i old new) []) ⌝ }
+        ≡ puts (pen (now (log .entry)) at) (cond (changedEvent old new) (eventNoted i old new) []) ⌝ }
 {
     if event_rows::same(old, new) {
         return at;
@@ -41,8 +39,8 @@ fn put_changed_event(log: &mut [u8], at: usize, i: u8, old: Event, new: Event) -
 pub fn put_events(
     log: &mut [u8],
     at: usize,
-    old: [Event; 8],
-    new: [Event; 8],
+    old: [Event; sizes::EVENTS],
+    new: [Event; sizes::EVENTS],
     first: u8,
     count: u8,
 ) -> usize
@@ -52,7 +50,7 @@ pub fn put_events(
     let mut i = first;
     let mut left = count;
     while 0 < left {
-        if 8 <= i {
+        if sizes::EVENT_IDS <= i {
             return p;
         }
         let j = i as usize;
@@ -65,7 +63,7 @@ pub fn put_events(
 
 // A byte 8 where a bit changed.
 pub fn put_bits(log: &mut [u8], at: usize, old: u32, new: u32) -> usize
-    ensures { λ r. ⌜ pen (now (log .exit)) r ≡ puts (pen (now (log .entry)) at) (cond (eqb old new) [] (8 ∷ [])) ⌝ }
+    ensures { λ r. ⌜ pen (now (log .exit)) r ≡ puts (pen (now (log .entry)) at) (bitNoted old new) ⌝ }
 {
     if old == new {
         return at;

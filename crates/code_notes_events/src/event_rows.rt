@@ -6,7 +6,14 @@ ghost use Rattle.spec_notes.specs.Touched.{sameEvent};
 use base_rows::rows::Row;
 use code_notes_entries::choices::one_if;
 use code_notes_entries::choices::word;
+use code_notes_entries::fields::same_rows;
 use spec_kernel::records::Event;
+
+// The widths of these fields, in bytes.
+pub const WIDTHS: [u8; 8] = [1, 4, 4, 0, 0, 0, 0, 0];
+
+// The longest entry: id, flags and every field.
+pub const LONGEST: usize = 11;
 
 pub fn row_of(r: Event) -> Row
     ensures { λ x. ⌜ x .fields ≡ eventRow r ⌝ }
@@ -30,9 +37,5 @@ pub fn from_row(row: [u32; 8]) -> Event
 pub fn same(r: Event, s: Event) -> bool
     ensures { λ b. ⌜ b ≡ sameEvent r s ⌝ }
 {
-    let x = row_of(r);
-    let y = row_of(s);
-    let a = x.fields;
-    let b = y.fields;
-    base_rows::rows::flags_of(a, b) == 0
+    same_rows(row_of(r), row_of(s))
 }

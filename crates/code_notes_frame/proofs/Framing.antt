@@ -1,23 +1,22 @@
 -- Laws on a note's frame: each section from where it begins to where the next one does.
-use Prim.Native.Nat.{ℕ, zero, suc, _+_, _-_, _≤_, _<_, min}
-use mathlib.Core.Path.{_≡_, refl, _∙_}
-use mathlib.Core.Bool.{Bool, true, false, cond, _&&_}
+use Prim.Native.Nat.{ℕ, zero, suc, _+_, _-_, _*_, _≤_, _<_, min}
+use mathlib.Core.Path.{_≡_, refl, sym, _∙_}
 use mathlib.Core.List.{List, [], _∷_, _++_}
 use native.Mathlib.Numerals.{add-one}
 use native.Mathlib.Omega.{arith}
-use lib.Dec.{eqb}
-use lib.ListN.{length, take, drop, getD, set, replicate, length-take, length-append, length-drop}
+use lib.Dec.{eqb, leb}
+use lib.ListN.{length, take, drop, getD, set, replicate, length-take, length-append, length-drop, List·getD-eq-default}
 use lib.Seq.{drop-drop, take-append-le, getD-take, take-suc, take-suc-set}
-use borrow.Author.Tests.{eq-eqb, eqb-true, le-leb}
-use Rattle.base_queue.proofs.Lists.{and-both, take-size}
+use borrow.Author.Tests.{eq-eqb, ne-eqb, eqb-true, eqb-false, le-leb, lt-leb, leb-true, leb-false}
+use borrow.Table.Steps.{cases}
+use Rattle.base_queue.proofs.Lists.{take-size}
 use Rattle.base_bytes.specs.Bytes.{un}
 use Rattle.base_bytes.proofs.Turns.{drop-least}
-use Rattle.spec_notes.specs.Back.{Sections}
-use Rattle.spec_notes.specs.Frames.{nothing, sections, isWhole, firstSection, behindSection, areWhole, framesFrom, framesOf}
+use Rattle.spec_notes.specs.Notes.{sectionCount, leastNote}
+use Rattle.spec_notes.specs.Frames.{nothing, sections, isWhole, firstSection, behindSection, sectionsAt, areWhole, sectionBytes, framesOf}
 use Rattle.spec_notes.specs.Undoes.{callBytes}
-use Rattle.code_notes_frame.specs.Meant.{partOf, sectionsMeant, recordOf}
+use Rattle.code_notes_frame.specs.Meant.{partOf, startFrom, recordOf}
 use Rattle.code_notes_frame.specs.declared.frames.Part.{Part}
-use Rattle.code_notes_frame.specs.declared.frames.Frames.{Frames}
 
 abbrev pub part : ℕ → ℕ → Part
 part p q = record { from = p; to = q }
@@ -29,96 +28,82 @@ part-least p q s =
     let e : min q (length s) - min p (length s) ≡ length (take (q - p) (drop p s)) = simp (length-take, length-drop) (omega arith) in
     rw (drop-least, e) (take-size (q - p) (drop p s))
 
--- ---- one section, from p to q
-module _ (s : List ℕ) (p q : ℕ) (e : q ≡ p + 2 + un 2 (drop p s)) where
-  behind : behindSection (drop p s) ≡ drop q s
+-- ---- where the sections begin
+-- each takes two bytes at least
+start-grows : (s : List ℕ) (n p : ℕ) → p + 2 * n ≤ startFrom s n p
+unfolding startFrom
+start-grows s zero p = omega arith
+start-grows s (suc n) p = omega (arith, start-grows s n (p + 2 + un 2 (drop p s)))
+
+sections-count : (n : ℕ) (s : List ℕ) → length (sectionsAt n s) ≡ n
+unfolding sectionsAt
+sections-count zero s = refl
+sections-count (suc n) s = rw (sections-count n (behindSection s))
+
+module _ (s : List ℕ) where
+  behind : (p : ℕ) → behindSection (drop p s) ≡ drop (p + 2 + un 2 (drop p s)) s
   unfolding behindSection
-  behind = let r : p + (2 + un 2 (drop p s)) ≡ q = omega arith in rw (drop-drop, r)
+  behind p = let r : p + (2 + un 2 (drop p s)) ≡ p + 2 + un 2 (drop p s) = omega arith in rw (drop-drop, r)
 
-  first : firstSection (drop p s) ≡ partOf (part (p + 2) q) s
-  unfolding firstSection partOf
-  first = let r : q - (p + 2) ≡ un 2 (drop p s) = omega arith in rw (r, drop-drop)
+  -- one that is gone over
+  pub start-next : (n p : ℕ) → 0 < n → startFrom s n p ≡ startFrom s (n - 1) (p + 2 + un 2 (drop p s))
+  unfolding startFrom
+  start-next zero p h = absurd (omega arith)
+  start-next (suc n) p h = let e : suc n - 1 ≡ n = omega arith in rw e
 
-  whole : q ≤ length s → isWhole (drop p s) ≡ true
-  unfolding isWhole
-  whole h = le-leb (2 + un 2 (drop p s)) (length (drop p s)) (rw length-drop (omega arith))
+  -- n of them fill the bytes from p on exactly where one more would begin at the end
+  pub whole-at : (n p : ℕ) → p ≤ length s → areWhole n (drop p s) ≡ eqb (startFrom s n p) (length s)
+  unfolding areWhole startFrom isWhole
+  whole-at zero p h =
+      rw length-drop
+      (cases (eqb p (length s)) (λ e. rw e (eq-eqb (length s - p) 0 (omega (arith, eqb-true p (length s) e))))
+      (λ e. rw e (ne-eqb (length s - p) 0 (λ z. eqb-false p (length s) e (omega arith)))))
+  whole-at (suc n) p h =
+      let m = 2 + un 2 (drop p s) in
+      let q = p + 2 + un 2 (drop p s) in
+      cases (leb q (length s))
+      (λ e. let b : q ≤ length s = leb-true q (length s) e in
+      let w = le-leb m (length (drop p s)) (rw length-drop (omega arith)) in
+      rw (w, behind p) (whole-at n q b))
+      (λ e. let b : length s < q = leb-false q (length s) e in
+      let w = lt-leb m (length (drop p s)) (rw length-drop (omega arith)) in
+      rw w (sym (ne-eqb (startFrom s n q) (length s) (λ z. omega (arith, start-grows s n q)))))
 
-whole-last : (a b c d e rest : List ℕ) → areWhole a b c d e rest ≡ true → length rest ≡ 2
-whole-last a b c d e rest q =
-    eqb-true (length rest) 2 (and-both (isWhole a && isWhole b && isWhole c && isWhole d && isWhole e) (eqb (length rest) 2) q .1)
+  -- section i of n, of those from p on
+  pub section-at : (n i p : ℕ) → i < n → let q = startFrom s i p in
+      getD (sectionsAt n (drop p s)) i [] ≡ take (un 2 (drop q s)) (drop (q + 2) s)
+  unfolding sectionsAt startFrom firstSection
+  section-at zero i p h = absurd (omega arith)
+  section-at (suc n) zero p h = rw drop-drop
+  section-at (suc n) (suc i) p h = rw (behind p) (section-at n i (p + 2 + un 2 (drop p s)) (omega arith))
 
--- ---- the five of them, of the lengths that are read
-module _ (s : List ℕ) (v w x y z : ℕ) where
-  abbrev b : ℕ
-  b = 18 + v
+  -- behind them there is none
+  pub section-none : (n i : ℕ) → n ≤ i → getD (sectionsAt n s) i [] ≡ []
+  section-none n i h = List·getD-eq-default (sectionsAt n s) [] (rw (sections-count n s) h)
 
-  abbrev c : ℕ
-  c = b + 2 + w
+-- the note's sections fill what stands between, or they don't
+module _ (note : List ℕ) where
+  abbrev s : List ℕ
+  s = partOf (part 16 (length note - 2)) note
 
-  abbrev d : ℕ
-  d = c + 2 + x
+  whole : areWhole sectionCount (sectionBytes note) ≡ eqb (startFrom s sectionCount 0) (length s)
+  unfolding sectionBytes partOf
+  whole = whole-at s sectionCount 0 (omega arith)
 
-  abbrev e : ℕ
-  e = d + 2 + y
+  pub frames-fit : startFrom s sectionCount 0 ≡ length s → framesOf note ≡ sections (sectionsAt sectionCount s)
+  unfolding framesOf sectionBytes partOf
+  frames-fit h = rw (whole, eq-eqb (startFrom s sectionCount 0) (length s) h)
 
-  abbrev f : ℕ
-  f = e + 2 + z
+  pub frames-none : (startFrom s sectionCount 0 ≡ length s → ⊥) → framesOf note ≡ nothing
+  unfolding framesOf
+  frames-none h = rw (whole, ne-eqb (startFrom s sectionCount 0) (length s) h)
 
-  abbrev pub framed : Frames
-  framed =
-      record {
-        scheduler = part 18 b;
-        threads = part (b + 2) c;
-        semaphores = part (c + 2) d;
-        events = part (d + 2) e;
-        messages = part (e + 2) f;
-      }
+  part-size : length s ≤ length note - 2 - 16
+  unfolding partOf
+  part-size = rw length-take (omega arith)
 
-  module _ (v′ : v ≡ un 2 (drop 16 s)) (w′ : w ≡ un 2 (drop b s)) (x′ : x ≡ un 2 (drop c s)) (y′ : y ≡ un 2 (drop d s))
-      (z′ : z ≡ un 2 (drop e s)) where
-    pub frames-fit : f + 2 ≡ length s → framesOf s ≡ sections (sectionsMeant framed s)
-    unfolding framesOf framesFrom sectionsMeant
-    frames-fit h =
-        let n : length (drop f s) ≡ 2 = rw length-drop (omega arith) in
-        rw (
-          behind s 16 b (omega arith),
-          behind s b c (omega arith),
-          behind s c d (omega arith),
-          behind s d e (omega arith),
-          behind s e f (omega arith),
-          whole s 16 b (omega arith) (omega arith),
-          whole s b c (omega arith) (omega arith),
-          whole s c d (omega arith) (omega arith),
-          whole s d e (omega arith) (omega arith),
-          whole s e f (omega arith) (omega arith),
-          eq-eqb (length (drop f s)) 2 n,
-          first s 16 b (omega arith),
-          first s b c (omega arith),
-          first s c d (omega arith),
-          first s d e (omega arith),
-          first s e f (omega arith),
-        )
-
-    pub frames-none : (f + 2 ≡ length s → ⊥) → framesOf s ≡ nothing
-    unfolding framesOf framesFrom
-    frames-none h =
-        rw (
-          behind s 16 b (omega arith),
-          behind s b c (omega arith),
-          behind s c d (omega arith),
-          behind s d e (omega arith),
-          behind s e f
-              (omega arith),
-        )
-        (go (areWhole (drop 16 s) (drop b s) (drop c s) (drop d s) (drop e s) (drop f s)) _ refl)
-      where
-        go : (t : Bool) (u : Sections) → areWhole (drop 16 s) (drop b s) (drop c s) (drop d s) (drop e s) (drop f s) ≡ t
-            → cond t (sections u) nothing ≡ nothing
-        go true u q =
-            let n : length (drop f s) ≡ 2 = whole-last (drop 16 s) (drop b s) (drop c s) (drop d s) (drop e s) (drop f s) q in
-            let m : length s - f ≡ 2 = rw length-drop at n in
-            absurd (h (omega arith))
-        go false u q = refl
+  pub frames-short : length note < leastNote → framesOf note ≡ nothing
+  frames-short h = frames-none (λ z. omega (arith, z, start-grows s sectionCount 0, part-size))
 
 -- ---- the call record
 -- of a note that has one

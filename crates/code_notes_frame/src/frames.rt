@@ -1,9 +1,29 @@
-// The frame of a note: where its five sections stand, or that its bytes make no note.
+// The frame of a note: its sections, one behind the other, or that its bytes make no note.
 ghost use mathlib.Core.Path.{_≡_};
-ghost use Rattle.spec_notes.specs.Frames.{framesOf};
-ghost use Rattle.code_notes_frame.specs.Meant.{partOf, meant};
+ghost use Prim.Native.Nat.{_*_, _≤_};
+ghost use mathlib.Core.List.{[]};
+ghost use lib.ListN.{getD};
+ghost use Rattle.spec_notes.specs.Notes.{sectionCount};
+ghost use Rattle.spec_notes.specs.Frames.{sectionsAt, framesOf};
+ghost use Rattle.code_notes_frame.specs.Meant.{partOf, startFrom, meant};
 use base_bytes::bytes::least;
 use base_bytes::bytes::number_at;
+
+// The sections, and the place of each among them.
+pub const SECTIONS: usize = 5;
+
+pub const SCHEDULER_AT: usize = 0;
+
+pub const THREADS_AT: usize = 1;
+
+pub const SEMAPHORES_AT: usize = 2;
+
+pub const EVENTS_AT: usize = 3;
+
+pub const MESSAGES_AT: usize = 4;
+
+// No note is shorter: the call record, the sections' lengths, and the whole length.
+pub const LEAST: usize = 16 + 2 * SECTIONS + 2;
 
 // A part of the note: where it begins, and where it ends.
 pub struct Part {
@@ -11,43 +31,57 @@ pub struct Part {
     pub to: usize,
 }
 
-pub struct Frames {
-    pub scheduler: Part,
-    pub threads: Part,
-    pub semaphores: Part,
-    pub events: Part,
-    pub messages: Part,
-}
-
+// The sections fill a part of the note; an enum holds no array, so each is found by going over those before it.
 pub enum Decoded {
     Nothing,
-    Sections(Frames),
+    Sections(Part),
 }
 
-// The five sections, each behind its two bytes of length; the whole length stands behind them.
+// The sections, each behind its two bytes of length, fill what stands between the call record and the whole length; else nothing.
 pub fn frames_of(note: &[u8]) -> Decoded
     ensures { λ r. ⌜ meant r (now (note .entry)) ≡ framesOf (now (note .entry)) ⌝ }
 {
-    let a: usize = 16;
-    let b = a + 2 + number_at(note, a, 2) as usize;
-    let c = b + 2 + number_at(note, b, 2) as usize;
-    let d = c + 2 + number_at(note, c, 2) as usize;
-    let e = d + 2 + number_at(note, d, 2) as usize;
-    let end = e + 2 + number_at(note, e, 2) as usize;
-    // each section ends before the next, so the last one's end says it of all
-    if end + 2 != note.len() {
+    if note.len() < LEAST {
         return Decoded::Nothing;
     }
-    Decoded::Sections(Frames {
-        scheduler: Part { from: a + 2, to: b },
-        threads: Part { from: b + 2, to: c },
-        semaphores: Part { from: c + 2, to: d },
-        events: Part { from: d + 2, to: e },
-        messages: Part {
-            from: e + 2,
-            to: end,
-        },
-    })
+    let all = Part {
+        from: 16,
+        to: note.len() - 2,
+    };
+    let s = part_of(note, all);
+    // each section ends before the next, so the last one's end says it of all
+    if start_of(s, SECTIONS) != s.len() {
+        return Decoded::Nothing;
+    }
+    Decoded::Sections(all)
+}
+
+// Where a section begins that stands behind n others, each of which takes 65,537 bytes at most.
+fn start_of(s: &[u8], n: usize) -> usize
+    requires { ⌜ n ≤ sectionCount ⌝ }
+    ensures { λ r. ⌜ (r ≡ startFrom (now (s .entry)) n 0) × (r ≤ 65537 * sectionCount) ⌝ }
+{
+    let mut at: usize = 0;
+    let mut left = n;
+    while 0 < left {
+        at = at + 2 + number_at(s, at, 2) as usize;
+        left -= 1;
+    }
+    at
+}
+
+// The section at this place among those that fill s.
+pub fn section_of(s: &[u8], i: usize) -> &[u8]
+    ensures { λ r. ⌜ now r ≡ getD (sectionsAt sectionCount (now (s .entry))) i [] ⌝ }
+{
+    if SECTIONS <= i {
+        return &s[0..0];
+    }
+    let at = start_of(s, i);
+    let n = number_at(s, at, 2) as usize;
+    let from = at + 2;
+    let to = from + n;
+    part_of(s, Part { from: from, to: to })
 }
 
 // The bytes of a part, as far as the note has them.

@@ -2,6 +2,7 @@
 ghost use mathlib.Core.Path.{_≡_};
 ghost use Rattle.spec_notes.specs.Undo.{lastLength, hasLast};
 ghost use Rattle.code_notes_frame.specs.Meant.{recordOf};
+use crate::frames::LEAST;
 use base_bytes::bytes::byte_at;
 use base_bytes::bytes::number_at;
 
@@ -15,7 +16,7 @@ pub fn last_length(log: &[u8], used: usize) -> usize
     number_at(log, used - 2, 2) as usize
 }
 
-// Whether the used bytes end with a note: 28 bytes at least, and all within them.
+// Whether the used bytes end with a note: as long as the least, and all within them.
 pub fn has_last(log: &[u8], used: usize) -> bool
     ensures { λ r. ⌜ r ≡ hasLast (now (log .entry)) used ⌝ }
 {
@@ -26,7 +27,7 @@ pub fn has_last(log: &[u8], used: usize) -> bool
     if log.len() < used {
         return false;
     }
-    if n < 28 {
+    if n < LEAST {
         return false;
     }
     n <= used

@@ -1,2 +1,1 @@
 pub mod Filed
-pub mod MessageEntries

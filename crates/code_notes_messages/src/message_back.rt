@@ -2,27 +2,31 @@
 ghost use mathlib.Core.Path.{_≡_};
 ghost use Prim.Native.Nat.{_+_, _≤_};
 ghost use lib.ListN.{length, getD, drop, set};
+ghost use Rattle.base_queue.specs.Queues.{capacity};
 ghost use Rattle.base_rows.specs.Rows.{rowFrom, fitted};
 ghost use Rattle.spec_notes.specs.Rows.{messageWidths};
 ghost use Rattle.spec_notes.specs.Predicted.{predictedMessage};
 ghost use Rattle.spec_notes.specs.Back.{messagesBefore};
 ghost use Rattle.code_notes_messages.specs.Filed.{filing};
 use crate::message_rows;
+use crate::message_rows::WIDTHS;
 use base_bytes::bytes::byte_at;
+use base_queue::CAPACITY;
 use base_rows::rows::Row;
 use base_rows::rows::row_at;
 use base_rows::rows::used_by;
 use code_kernel_find::by_id;
 use spec_calls::call::Call;
 use spec_kernel::records::Message;
+use spec_kernel::sizes;
 
-const WIDTHS: [u8; 8] = [1, 1, 1, 2, 4, 4, 1, 1];
+const PLACES: u32 = CAPACITY as u32;
 
 // The records, who was touched, and who stood at each place.
 pub struct Filing {
-    pub messages: [Message; 64],
-    pub out: [u8; 64],
-    pub at: [u8; 64],
+    pub messages: [Message; sizes::MESSAGES],
+    pub out: [u8; CAPACITY],
+    pub at: [u8; CAPACITY],
 }
 
 // The row before, of the record after and an entry whose flags stand at a place. It fits its widths.
@@ -39,23 +43,23 @@ fn row_before(c: Call, runner: u8, r: Message, s: &[u8], at: usize) -> Row
 }
 
 // x stored at a place, where the array has it.
-fn store(a: &mut [u8; 64], i: u32, x: u8)
-    requires { ⌜ length (now a) ≡ 64 ⌝ }
+fn store(a: &mut [u8; CAPACITY], i: u32, x: u8)
+    requires { ⌜ length (now a) ≡ capacity ⌝ }
     ensures { λ _. ⌜ now (a .exit) ≡ set (now (a .entry)) i x ⌝ }
 {
-    if i < 64 {
+    if i < PLACES {
         let j = i as usize;
         a[j] = x;
     }
 }
 
 // Entry by entry: id, flags, fields; `runner` is who runs after the call.
-pub fn messages_before(c: Call, runner: u8, new: [Message; 64], s: &[u8]) -> Filing
+pub fn messages_before(c: Call, runner: u8, new: [Message; sizes::MESSAGES], s: &[u8]) -> Filing
     ensures { λ x. ⌜ filing x ≡ messagesBefore c runner new (now (s .entry)) ⌝ }
 {
     let mut messages = new;
-    let mut out = [0u8; 64];
-    let mut places = [255u8; 64];
+    let mut out = [0u8; CAPACITY];
+    let mut places = [255u8; CAPACITY];
     let mut p: usize = 0;
     while p < s.len() {
         let m = s[p];
@@ -65,7 +69,7 @@ pub fn messages_before(c: Call, runner: u8, new: [Message; 64], s: &[u8]) -> Fil
         let fields = row.fields;
         store(&mut out, m as u32, 1);
         store(&mut places, fields[7], m);
-        if m < 64 {
+        if m < sizes::MESSAGE_IDS {
             let i = m as usize;
             messages[i] = message_rows::from_row(fields);
         }

@@ -1,23 +1,22 @@
 // The entries of messages.
 ghost use mathlib.Core.Path.{_≡_};
-ghost use mathlib.Core.Bool.{cond, not};
+ghost use mathlib.Core.Bool.{cond};
 ghost use mathlib.Core.List.{[]};
 ghost use Rattle.base_queue.specs.Tables.{oldPlace};
 ghost use Rattle.base_queue.specs.Queues.{items};
 ghost use Rattle.base_bytes.specs.Pens.{pen, puts};
-ghost use Rattle.spec_notes.specs.Touched.{sameMessage};
-ghost use Rattle.spec_notes.specs.Sections.{messageNoted};
-ghost use Rattle.code_notes_messages.specs.MessageEntries.{messageEntries};
+ghost use Rattle.spec_notes.specs.Touched.{changedMessage};
+ghost use Rattle.spec_notes.specs.Sections.{messageNoted, messageEntries};
 use crate::message_rows;
+use crate::message_rows::WIDTHS;
 use base_bytes::pens::put_byte;
 use base_queue::Queue;
 use code_notes_entries::fields::put_fields;
 use code_notes_entries::old_places::old_place;
 use spec_calls::call::Call;
 use spec_kernel::records::Message;
+use spec_kernel::sizes;
 use spec_moves::parts::Posts;
-
-const MESSAGE_WIDTHS: [u8; 8] = [1, 1, 1, 2, 4, 4, 1, 1];
 
 // A message before: its id, and what isn't as predicted of its record and its place; `runner` is who runs after the call.
 fn put_message(
@@ -37,7 +36,7 @@ fn put_message(
     let p = put_byte(log, at, m);
     let fields = before.fields;
     let predicted = told.fields;
-    put_fields(log, p, MESSAGE_WIDTHS, fields, predicted)
+    put_fields(log, p, WIDTHS, fields, predicted)
 }
 
 // The same, where it changed.
@@ -53,7 +52,7 @@ fn put_changed_message(
 ) -> usize
     ensures { λ r. ⌜ pen (now (log .exit)) r
         ≡ puts (pen (now (log .entry)) at)
-        (cond (not (sameMessage old new)) (messageNoted m c runner old (oldPlace m (items posted)) new) []) ⌝ }
+        (cond (changedMessage old new) (messageNoted m c runner old (oldPlace m (items posted)) new) []) ⌝ }
 {
     if message_rows::same(old, new) {
         return at;
@@ -68,7 +67,7 @@ pub fn put_messages(
     c: Call,
     runner: u8,
     old: Posts,
-    new: [Message; 64],
+    new: [Message; sizes::MESSAGES],
     first: u8,
     count: u8,
 ) -> usize
@@ -80,7 +79,7 @@ pub fn put_messages(
     let mut i = first;
     let mut left = count;
     while 0 < left {
-        if 64 <= i {
+        if sizes::MESSAGE_IDS <= i {
             return p;
         }
         let j = i as usize;

@@ -10,8 +10,15 @@ use base_rows::rows::Row;
 use code_notes_entries::choices::either;
 use code_notes_entries::choices::one_if;
 use code_notes_entries::choices::word;
+use code_notes_entries::fields::same_rows;
 use spec_calls::call::Call;
 use spec_kernel::records::Message;
+
+// The widths of these fields, in bytes.
+pub const WIDTHS: [u8; 8] = [1, 1, 1, 2, 4, 4, 1, 1];
+
+// The longest entry: id, flags and every field.
+pub const LONGEST: usize = 17;
 
 pub fn row_of(r: Message, place: u8) -> Row
     ensures { λ x. ⌜ x .fields ≡ messageRow r place ⌝ }
@@ -95,9 +102,5 @@ pub fn predicted(c: Call, runner: u8, r: Message) -> Row
 pub fn same(r: Message, s: Message) -> bool
     ensures { λ b. ⌜ b ≡ sameMessage r s ⌝ }
 {
-    let x = row_of(r, 0);
-    let y = row_of(s, 0);
-    let a = x.fields;
-    let b = y.fields;
-    base_rows::rows::flags_of(a, b) == 0
+    same_rows(row_of(r, 0), row_of(s, 0))
 }

@@ -4,6 +4,7 @@ ghost use Rattle.spec_rules.specs.Tests.{allOf};
 ghost use Rattle.spec_notes.specs.Touched.{sameRow, sameThread, sameSemaphore, sameEvent, sameMessage};
 ghost use Rattle.spec_notes.specs.Same.{sameAll, sameQueue, sameNumbers, sameKernel};
 ghost use Rattle.code_notes_same.specs.OfRecords.{ofRecords};
+use base_queue::CAPACITY;
 use base_queue::Queue;
 use code_notes_events::event_rows;
 use code_notes_messages::message_rows;
@@ -14,12 +15,13 @@ use spec_kernel::records::Kernel;
 use spec_kernel::records::Message;
 use spec_kernel::records::Semaphore;
 use spec_kernel::records::Thread;
+use spec_kernel::sizes;
 
-fn same_threads(a: [Thread; 32], b: [Thread; 32]) -> bool
+fn same_threads(a: [Thread; sizes::THREADS], b: [Thread; sizes::THREADS]) -> bool
     ensures { λ r. ⌜ r ≡ sameAll sameThread a b ⌝ }
 {
     let mut i: usize = 0;
-    while i < 32 {
+    while i < sizes::THREADS {
         let x = a[i];
         let y = b[i];
         if !thread_rows::same(x, y) {
@@ -30,11 +32,11 @@ fn same_threads(a: [Thread; 32], b: [Thread; 32]) -> bool
     true
 }
 
-fn same_semaphores(a: [Semaphore; 16], b: [Semaphore; 16]) -> bool
+fn same_semaphores(a: [Semaphore; sizes::SEMAPHORES], b: [Semaphore; sizes::SEMAPHORES]) -> bool
     ensures { λ r. ⌜ r ≡ sameAll sameSemaphore a b ⌝ }
 {
     let mut i: usize = 0;
-    while i < 16 {
+    while i < sizes::SEMAPHORES {
         let x = a[i];
         let y = b[i];
         if !semaphore_rows::same(x, y) {
@@ -45,11 +47,11 @@ fn same_semaphores(a: [Semaphore; 16], b: [Semaphore; 16]) -> bool
     true
 }
 
-fn same_events(a: [Event; 8], b: [Event; 8]) -> bool
+fn same_events(a: [Event; sizes::EVENTS], b: [Event; sizes::EVENTS]) -> bool
     ensures { λ r. ⌜ r ≡ sameAll sameEvent a b ⌝ }
 {
     let mut i: usize = 0;
-    while i < 8 {
+    while i < sizes::EVENTS {
         let x = a[i];
         let y = b[i];
         if !event_rows::same(x, y) {
@@ -60,11 +62,11 @@ fn same_events(a: [Event; 8], b: [Event; 8]) -> bool
     true
 }
 
-fn same_messages(a: [Message; 64], b: [Message; 64]) -> bool
+fn same_messages(a: [Message; sizes::MESSAGES], b: [Message; sizes::MESSAGES]) -> bool
     ensures { λ r. ⌜ r ≡ sameAll sameMessage a b ⌝ }
 {
     let mut i: usize = 0;
-    while i < 64 {
+    while i < sizes::MESSAGES {
         let x = a[i];
         let y = b[i];
         if !message_rows::same(x, y) {
@@ -75,11 +77,11 @@ fn same_messages(a: [Message; 64], b: [Message; 64]) -> bool
     true
 }
 
-fn same_places(a: [u8; 64], b: [u8; 64]) -> bool
+fn same_places(a: [u8; CAPACITY], b: [u8; CAPACITY]) -> bool
     ensures { λ r. ⌜ r ≡ sameRow a b ⌝ }
 {
     let mut i: usize = 0;
-    while i < 64 {
+    while i < CAPACITY {
         if a[i] != b[i] {
             return false;
         }

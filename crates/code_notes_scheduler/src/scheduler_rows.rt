@@ -7,6 +7,12 @@ ghost use Rattle.spec_notes.specs.Predicted.{predictedLevels};
 use base_rows::rows::Row;
 use spec_calls::call::Call;
 
+// The widths of these fields, in bytes.
+pub const WIDTHS: [u8; 8] = [1, 1, 1, 0, 0, 0, 0, 0];
+
+// The longest section: flags and every field.
+pub const LONGEST: usize = 4;
+
 pub fn row_of(unscheduled: u8, critical: u8, runner: u8) -> Row
     ensures { λ x. ⌜ x .fields ≡ schedulerRow unscheduled critical runner ⌝ }
 {

@@ -9,13 +9,13 @@ ghost use Rattle.spec_notes.specs.Touched.{youngerSemaphore};
 ghost use Rattle.spec_notes.specs.Predicted.{predictedSemaphore};
 ghost use Rattle.spec_notes.specs.Back.{semaphoresBefore};
 use crate::semaphore_rows;
+use crate::semaphore_rows::WIDTHS;
 use base_bytes::bytes::byte_at;
 use base_rows::rows::row_at;
 use base_rows::rows::used_by;
 use spec_calls::call::Call;
 use spec_kernel::records::Semaphore;
-
-const WIDTHS: [u8; 8] = [1, 2, 2, 4, 4, 0, 0, 0];
+use spec_kernel::sizes::SEMAPHORES;
 
 // A record before, of the record after and an entry whose flags stand at a place.
 fn record_at(c: Call, r: Semaphore, s: &[u8], at: usize) -> Semaphore
@@ -32,12 +32,12 @@ fn record_at(c: Call, r: Semaphore, s: &[u8], at: usize) -> Semaphore
 }
 
 // Every semaphore as it was where the call did no more than age it.
-fn younger_all(c: Call, new: [Semaphore; 16]) -> [Semaphore; 16]
+fn younger_all(c: Call, new: [Semaphore; SEMAPHORES]) -> [Semaphore; SEMAPHORES]
     ensures { λ x. ⌜ x ≡ map (youngerSemaphore c) new ⌝ }
 {
     let mut next = new;
     let mut i: usize = 0;
-    while i < 16 {
+    while i < SEMAPHORES {
         let r = new[i];
         next[i] = semaphore_rows::younger(c, r);
         i += 1;
@@ -46,7 +46,7 @@ fn younger_all(c: Call, new: [Semaphore; 16]) -> [Semaphore; 16]
 }
 
 // Entry by entry: id, flags, fields.
-pub fn semaphores_before(c: Call, new: [Semaphore; 16], s: &[u8]) -> [Semaphore; 16]
+pub fn semaphores_before(c: Call, new: [Semaphore; SEMAPHORES], s: &[u8]) -> [Semaphore; SEMAPHORES]
     ensures { λ x. ⌜ x ≡ semaphoresBefore c new (now (s .entry)) ⌝ }
 {
     let mut a = younger_all(c, new);
@@ -55,7 +55,7 @@ pub fn semaphores_before(c: Call, new: [Semaphore; 16], s: &[u8]) -> [Semaphore;
         let i = s[p] as usize;
         let at = p + 1;
         p = at + 1 + used_by(WIDTHS, byte_at(s, at));
-        if i < 16 {
+        if i < SEMAPHORES {
             let r = new[i];
             a[i] = record_at(c, r, s, at);
         }

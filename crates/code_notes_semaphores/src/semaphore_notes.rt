@@ -4,15 +4,14 @@ ghost use mathlib.Core.Bool.{cond};
 ghost use mathlib.Core.List.{[]};
 ghost use Rattle.base_bytes.specs.Pens.{pen, puts};
 ghost use Rattle.spec_notes.specs.Touched.{changedSemaphore};
-ghost use Rattle.spec_notes.specs.Sections.{semaphoreNoted};
-ghost use Rattle.code_notes_semaphores.specs.SemaphoreEntries.{semaphoreEntries};
+ghost use Rattle.spec_notes.specs.Sections.{semaphoreNoted, semaphoreEntries};
 use crate::semaphore_rows;
+use crate::semaphore_rows::WIDTHS;
 use base_bytes::pens::put_byte;
 use code_notes_entries::fields::put_fields;
 use spec_calls::call::Call;
 use spec_kernel::records::Semaphore;
-
-const SEMAPHORE_WIDTHS: [u8; 8] = [1, 2, 2, 4, 4, 0, 0, 0];
+use spec_kernel::sizes;
 
 // A semaphore before: its id, and what isn't as predicted of its record.
 fn put_semaphore(log: &mut [u8], at: usize, i: u8, c: Call, old: Semaphore, new: Semaphore) -> usize
@@ -23,7 +22,7 @@ fn put_semaphore(log: &mut [u8], at: usize, i: u8, c: Call, old: Semaphore, new:
     let p = put_byte(log, at, i);
     let fields = before.fields;
     let predicted = told.fields;
-    put_fields(log, p, SEMAPHORE_WIDTHS, fields, predicted)
+    put_fields(log, p, WIDTHS, fields, predicted)
 }
 
 // The same, where more than ageing changed it.
@@ -49,8 +48,8 @@ pub fn put_semaphores(
     log: &mut [u8],
     at: usize,
     c: Call,
-    old: [Semaphore; 16],
-    new: [Semaphore; 16],
+    old: [Semaphore; sizes::SEMAPHORES],
+    new: [Semaphore; sizes::SEMAPHORES],
     first: u8,
     count: u8,
 ) -> usize
@@ -60,7 +59,7 @@ pub fn put_semaphores(
     let mut i = first;
     let mut left = count;
     while 0 < left {
-        if 16 <= i {
+        if sizes::SEMAPHORE_IDS <= i {
             return p;
         }
         let j = i as usize;

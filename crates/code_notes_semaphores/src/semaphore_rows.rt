@@ -11,8 +11,15 @@ use base_rows::rows::Row;
 use code_notes_entries::choices::either;
 use code_notes_entries::choices::one_if;
 use code_notes_entries::choices::word;
+use code_notes_entries::fields::same_rows;
 use spec_calls::call::Call;
 use spec_kernel::records::Semaphore;
+
+// The widths of these fields, in bytes.
+pub const WIDTHS: [u8; 8] = [1, 2, 2, 4, 4, 0, 0, 0];
+
+// The longest entry: id, flags and every field.
+pub const LONGEST: usize = 15;
 
 pub fn row_of(r: Semaphore) -> Row
     ensures { λ x. ⌜ x .fields ≡ semaphoreRow r ⌝ }
@@ -92,9 +99,5 @@ pub fn younger(c: Call, r: Semaphore) -> Semaphore
 pub fn same(r: Semaphore, s: Semaphore) -> bool
     ensures { λ b. ⌜ b ≡ sameSemaphore r s ⌝ }
 {
-    let x = row_of(r);
-    let y = row_of(s);
-    let a = x.fields;
-    let b = y.fields;
-    base_rows::rows::flags_of(a, b) == 0
+    same_rows(row_of(r), row_of(s))
 }

@@ -2,12 +2,13 @@
 use Prim.Native.Nat.{ℕ, zero, suc, _+_, _≤_, _<_}
 use mathlib.Core.Path.{_≡_, refl, sym}
 use mathlib.Core.Bool.{Bool, true}
-use mathlib.Core.List.{List, []}
+use mathlib.Core.List.{List}
 use native.Mathlib.Omega.{arith}
 use lib.Dec.{eqb, ltb}
 use borrow.Author.Tests.{eqb-true, eqb-false, ltb-true, ltb-false}
 use borrow.Table.Steps.{cases}
 use Rattle.spec_notes.specs.Sections.{entriesFrom}
+use Rattle.spec_notes.proofs.EntriesShort.{entries-none}
 use Rattle.code_notes_spans.specs.Spans.{Span, span, alone}
 
 -- who is touched of n ids lies in a span: it has all of them, or at most one is touched, or nobody is
@@ -17,20 +18,12 @@ pub data Part (touched : ℕ → Bool) (n : ℕ) : Span → Type 0 where
   none : ((i : ℕ) → touched i ≡ true → ⊥) → Part touched n (span 0 0)
 
 module _ (touched : ℕ → Bool) (entry : ℕ → List ℕ) where
-  entries-none : (i n : ℕ) → ((j : ℕ) → i ≤ j → j < i + n → touched j ≡ true → ⊥) → entriesFrom touched entry i n ≡ []
-  entries-none i zero h = refl
-  entries-none i (suc n) h =
-      let r = entries-none (suc i) n (λ j a b. h j (omega arith) (omega arith)) in
-      cases (touched i) (λ e. absurd (h i (omega arith) (omega arith) e)) (λ e. rw e r)
-
   module _ (x : ℕ) (only : (i : ℕ) → touched i ≡ true → i ≡ x) where
-    entries-here : (n : ℕ) → entriesFrom touched entry x (suc n) ≡ entriesFrom touched entry x 1
-    entries-here n = rw (entries-none (suc x) n (λ j a _ t. omega (arith, only j t)))
-
     entries-lone : (i n : ℕ) → i ≤ x → x < i + n → entriesFrom touched entry i n ≡ entriesFrom touched entry x 1
     entries-lone i zero a b = absurd (omega arith)
     entries-lone i (suc n) a b =
-        cases (eqb i x) (λ e. rw (eqb-true i x e) (entries-here n))
+        cases (eqb i x)
+        (λ e. rw (eqb-true i x e, entries-none touched entry (suc x) n (λ j a _ t. omega (arith, only j t))))
         (λ e. let ne = eqb-false i x e in
         let r = entries-lone (suc i) n (omega arith) (omega arith) in
         cases (touched i) (λ t. absurd (ne (only i t))) (λ t. rw t r))

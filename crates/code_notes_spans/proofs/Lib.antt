@@ -1,4 +1,3 @@
 pub mod InSpans
 pub mod SpansOfCalls
-pub mod SpanCases
 pub mod Waiters

@@ -1,23 +1,24 @@
--- The spans of an accepted call have everybody whom it touches, so the note by its spans is the note.
+-- The spans of an accepted call have everybody whom it touches, so the entries of the spans are the sections of its note.
 use Prim.Native.Nat.{ℕ, _+_}
 use mathlib.Core.Path.{_≡_, refl, sym, ap, subst, _∙_}
-use mathlib.Core.Bool.{Bool, true, false, cond, not, false≢true, or-false}
+use mathlib.Core.Bool.{Bool, true, false, false≢true}
 use mathlib.Core.List.{List, [], _∷_, _++_}
 use native.Mathlib.Nat.{mod-eq-of-lt}
 use native.Mathlib.Omega.{arith}
 use lib.Dec.{eqb, ltb}
 use lib.ListN.{length}
 use lib.Seq.{getD-set-other}
-use borrow.Author.Tests.{eqb-true, eqb-false, ltb-true, ltb-false, not-false}
+use borrow.Author.Tests.{eqb-true, eqb-false, ltb-true, ltb-false}
 use borrow.Table.Steps.{cases}
 use Rattle.base_queue.specs.Lists.{firstOf}
 use Rattle.spec_kernel.specs.declared.records.Thread.{Thread}
 use Rattle.spec_kernel.specs.declared.records.Semaphore.{Semaphore}
 use Rattle.spec_kernel.specs.declared.records.Kernel.{Kernel}
-use Rattle.spec_kernel.specs.Records.{thread, semaphore, event, message, noThread, noSemaphore, noEvent}
-use Rattle.spec_kernel.specs.Conditions.{awaits}
+use Rattle.spec_kernel.specs.Sizes.{threadCount, semaphoreCount, eventCount, messageCount}
+use Rattle.spec_kernel.specs.Records.{thread, semaphore, event, noThread, noSemaphore, noEvent}
+use Rattle.spec_kernel.specs.Conditions.{ofSemaphores, awaits}
 use Rattle.spec_kernel.specs.Truth.{isTrue}
-use Rattle.spec_kernel.specs.Places.{semaphoreQueue}
+use Rattle.spec_kernel.specs.Places.{home, semaphoreQueue}
 use Rattle.spec_moves.specs.Standing.{threadsOf, postsOf}
 use Rattle.spec_moves.proofs.Joins.{past-end}
 use Rattle.spec_moves.proofs.Threads.{relocate-other}
@@ -26,8 +27,9 @@ use Rattle.spec_kernel.specs.Free.{freeThread, freeSemaphore, freeMessage}
 use Rattle.spec_kernel.specs.Channels.{nextMessage}
 use Rattle.code_kernel_find.specs.AtHome.{firstAtHome}
 use Rattle.spec_calls.specs.declared.call.Call.{Call}
-use Rattle.spec_calls.specs.Calls.{callOf}
-use Rattle.spec_refusals.specs.Refusals.{is, badId, numberOf}
+use Rattle.spec_calls.specs.Kinds.{kindOf}
+use Rattle.spec_refusals.specs.Named.{valueOf}
+use Rattle.spec_refusals.specs.Refusals.{is, numberOf}
 use Rattle.spec_moves.specs.States.{moveThread, withSemaphore, withBits, asByte, scheduled}
 use Rattle.spec_threads.specs.Threads.{block, wake, freeMessages, createThread, destroyThread, setPriority, resetPriority, yielded, sleep}
 use Rattle.spec_regions.specs.Regions.{pushUnscheduled, popUnscheduled, popAllUnscheduled, pushCritical, popCritical, popAllCritical}
@@ -37,15 +39,14 @@ use Rattle.spec_semaphores.specs.Semaphores.{pendSemaphore, postSemaphore}
 use Rattle.spec_events.specs.Events.{workedOut, loadEvent, pendEvent, setBit, clearBit}
 use Rattle.spec_messages.specs.Messages.{createMessage, destroyMessage, handOver, postMessage, receive, pendMessage}
 use Rattle.spec_time.specs.Time.{tick}
-use Rattle.spec_effects.specs.Effects.{effect, valueOf}
-use Rattle.proof_rules.proofs.Accepted.{Accepted, accepted, neither}
+use Rattle.spec_effects.specs.Effects.{effect}
+use Rattle.proof_rules.proofs.Accepted.{Accepted, accepted, thread-named}
 use Rattle.proof_rules.proofs.Effects.{_▸_, end, effect-of}
 use Rattle.spec_notes.specs.Touched.{movesInPlace, touchedThread, touchedSemaphore, touchedEvent, touchedMessage}
-use Rattle.spec_notes.specs.Sections.{threadEntry, semaphoreEntry, eventEntry, messageEntry}
-use Rattle.spec_notes.specs.Sections.{threadsSection, semaphoresSection, eventsSection, messagesSection}
-use Rattle.spec_notes.specs.Notes.{beforeLength, noteOf}
-use Rattle.code_notes_spans.specs.Spans.{span, alone, threadSpan, semaphoreSpan, eventSpan, messageSpan}
-use Rattle.code_notes_spans.specs.Spans.{waiterOf, threadsIn, semaphoresIn, eventsIn, messagesIn, frontIn, noteIn}
+use Rattle.spec_notes.specs.Sections.{threadEntry, threadEntries, threadsSection, semaphoreEntry, semaphoreEntries, semaphoresSection}
+use Rattle.spec_notes.specs.Sections.{eventEntry, eventEntries, bitNoted, eventsSection, messageEntry, messageEntries, messagesSection}
+use Rattle.code_notes_spans.specs.Spans.{span, alone, spanOf, threadSpan, semaphoreSpan, eventSpan, messageSpan}
+use Rattle.code_notes_spans.specs.Spans.{inSpan, waiterOf}
 use Rattle.spec_notes.proofs.Slight.{event-stays, message-stays, post-parts, pulses-parts}
 use Rattle.spec_notes.proofs.TickSlight.{post-other}
 use Rattle.spec_notes.proofs.Lengths.{thread-same, semaphore-same, younger-now, semaphore-now, moves-which}
@@ -53,10 +54,10 @@ use Rattle.code_notes_spans.proofs.InSpans.{Part, whole, lone, none, pa
 
 -- the four spans of a call that answers the value v and leads from k to u
 pub record Spanned (k : Kernel) (c : Call) (v : ℕ) (u : Kernel) : Type 0 where
-  pub threads : Part (touchedThread k c u) 32 (threadSpan c (k .runner) v (waiterOf k c))
-  pub semaphores : Part (touchedSemaphore k c u) 16 (semaphoreSpan c v)
-  pub events : Part (touchedEvent k c u) 8 (eventSpan c)
-  pub messages : Part (touchedMessage k c u) 64 (messageSpan c v)
+  pub threads : Part (touchedThread k c u) threadCount (threadSpan c (k .runner) v (waiterOf k c))
+  pub semaphores : Part (touchedSemaphore k c u) semaphoreCount (semaphoreSpan c v)
+  pub events : Part (touchedEvent k c u) eventCount (eventSpan c)
+  pub messages : Part (touchedMessage k c u) messageCount (messageSpan c v)
 
 -- who isn't x isn't touched: at most x is
 only-at : (touched : ℕ → Bool) (x : ℕ) → ((i : ℕ) → (i ≡ x → ⊥) → touched i ≡ true → ⊥) → (i : ℕ) → touched i ≡ true → i ≡ x
@@ -73,35 +74,37 @@ module _ (k : Kernel) (c : Call) (u : Kernel) (o : is c 1 ≡ false) where
   unfolding touchedSemaphore
   semaphore-stays i e h = false≢true (sym (rw (e, semaphore-now c (semaphore k i) o, semaphore-same (semaphore k i))) ∙ h)
 
-  no-thread : ((t : ℕ) → movesInPlace (k .runner) c t ≡ false) → u .threads ≡ k .threads → Part (touchedThread k c u) 32 (span 0 0)
+  no-thread : ((t : ℕ) → movesInPlace (k .runner) c t ≡ false) → u .threads ≡ k .threads → Part (touchedThread k c u) threadCount (span 0 0)
   no-thread m e = none (λ t h. false≢true (sym (m t) ∙ thread-moves t (rw e) h))
 
   one-thread : (x : ℕ) → OtherThreads x k u → ((t : ℕ) → movesInPlace (k .runner) c t ≡ true → t ≡ x)
-      → Part (touchedThread k c u) 32 (alone 32 x)
+      → Part (touchedThread k c u) threadCount (alone threadCount x)
   one-thread x f m = lone x (only-at (touchedThread k c u) x (λ t ne h. ne (m t (thread-moves t (f t ne) h))))
 
-  no-semaphore : u .semaphores ≡ k .semaphores → Part (touchedSemaphore k c u) 16 (span 0 0)
+  no-semaphore : u .semaphores ≡ k .semaphores → Part (touchedSemaphore k c u) semaphoreCount (span 0 0)
   no-semaphore e = none (λ i. semaphore-stays i (rw e))
 
-  one-semaphore : (x : ℕ) → ((i : ℕ) → (i ≡ x → ⊥) → semaphore u i ≡ semaphore k i) → Part (touchedSemaphore k c u) 16 (alone 16 x)
+  one-semaphore : (x : ℕ) → ((i : ℕ) → (i ≡ x → ⊥) → semaphore u i ≡ semaphore k i)
+      → Part (touchedSemaphore k c u) semaphoreCount (alone semaphoreCount x)
   one-semaphore x f = lone x (only-at (touchedSemaphore k c u) x (λ i ne. semaphore-stays i (f i ne)))
 
 module _ (k : Kernel) (c : Call) (u : Kernel) where
-  no-event : u .events ≡ k .events → Part (touchedEvent k c u) 8 (span 0 0)
+  no-event : u .events ≡ k .events → Part (touchedEvent k c u) eventCount (span 0 0)
   no-event e = none (λ i. event-stays k c u i (rw e))
 
-  one-event : (x : ℕ) → ((i : ℕ) → (i ≡ x → ⊥) → event u i ≡ event k i) → Part (touchedEvent k c u) 8 (alone 8 x)
+  one-event : (x : ℕ) → ((i : ℕ) → (i ≡ x → ⊥) → event u i ≡ event k i) → Part (touchedEvent k c u) eventCount (alone eventCount x)
   one-event x f = lone x (only-at (touchedEvent k c u) x (λ i ne. event-stays k c u i (f i ne)))
 
-  no-message : u .messages ≡ k .messages → Part (touchedMessage k c u) 64 (span 0 0)
+  no-message : u .messages ≡ k .messages → Part (touchedMessage k c u) messageCount (span 0 0)
   no-message e = none (λ m. message-stays k c u m (rw e))
 
-  one-message : (x : ℕ) → OtherMessages x k u → Part (touchedMessage k c u) 64 (alone 64 x)
+  one-message : (x : ℕ) → OtherMessages x k u → Part (touchedMessage k c u) messageCount (alone messageCount x)
   one-message x f = lone x (only-at (touchedMessage k c u) x (λ m ne. message-stays k c u m (f m ne)))
 
 module _ {k : Kernel} {c : Call} {v : ℕ} {u : Kernel} where
-  spanned : Part (touchedThread k c u) 32 (threadSpan c (k .runner) v (waiterOf k c)) → Part (touchedSemaphore k c u) 16 (semaphoreSpan c v)
-      → Part (touchedEvent k c u) 8 (eventSpan c) → Part (touchedMessage k c u) 64 (messageSpan c v) → Spanned k c v u
+  spanned : Part (touchedThread k c u) threadCount (threadSpan c (k .runner) v (waiterOf k c))
+      → Part (touchedSemaphore k c u) semaphoreCount (semaphoreSpan c v)
+      → Part (touchedEvent k c u) eventCount (eventSpan c) → Part (touchedMessage k c u) messageCount (messageSpan c v) → Spanned k c v u
   spanned T S E M = record { threads = T; semaphores = S; events = E; messages = M }
 
 -- ---- nothing happens to any record; a thread gets a record; a semaphore does
@@ -120,7 +123,7 @@ module _ (k : Kernel) (c : Call) (v : ℕ) (o : is c 1 ≡ false) where
   }
 
   placed : (x : ℕ) (r : Thread) → ((t : ℕ) → movesInPlace (k .runner) c t ≡ true → t ≡ x)
-      → threadSpan c (k .runner) v (waiterOf k c) ≡ alone 32 x → Nobody → Spanned k c v (moveThread x r k)
+      → threadSpan c (k .runner) v (waiterOf k c) ≡ alone threadCount x → Nobody → Spanned k c v (moveThread x r k)
   placed x r m t n =
       let u : Kernel = moveThread x r k in
       record {
@@ -131,7 +134,7 @@ module _ (k : Kernel) (c : Call) (v : ℕ) (o : is c 1 ≡ false) where
       }
 
   counted : (x : ℕ) (r : Semaphore) → ((t : ℕ) → movesInPlace (k .runner) c t ≡ false)
-      → threadSpan c (k .runner) v (waiterOf k c) ≡ span 0 0 → semaphoreSpan c v ≡ alone 16 x
+      → threadSpan c (k .runner) v (waiterOf k c) ≡ span 0 0 → semaphoreSpan c v ≡ alone semaphoreCount x
       → (eventSpan c ≡ span 0 0) × (messageSpan c v ≡ span 0 0) → Spanned k c v (withSemaphore x r k)
   counted x r m t s n =
       let u : Kernel = withSemaphore x r k in
@@ -143,7 +146,8 @@ module _ (k : Kernel) (c : Call) (v : ℕ) (o : is c 1 ≡ false) where
       }
 
   -- events are worked out with other bits
-  worked : (bits : ℕ) → threadSpan c (k .runner) v (waiterOf k c) ≡ span 0 32 → Nobody → Spanned k c v (workedOut (withBits bits k))
+  worked : (bits : ℕ) → threadSpan c (k .runner) v (waiterOf k c) ≡ span 0 threadCount → Nobody
+      → Spanned k c v (workedOut (withBits bits k))
   unfolding workedOut
   worked bits t n =
       let u : Kernel = workedOut (withBits bits k) in
@@ -155,7 +159,7 @@ module _ (k : Kernel) (c : Call) (v : ℕ) (o : is c 1 ≡ false) where
       }
 
 -- a post changes the first waiter at most
-waiter-only : (k : Kernel) (i : ℕ) → OtherThreads (firstAtHome (k .threads) (k .places) (256 + i)) k (post i k)
+waiter-only : (k : Kernel) (i : ℕ) → OtherThreads (firstAtHome (k .threads) (k .places) (home ofSemaphores i)) k (post i k)
 unfolding post wake firstAtHome
 waiter-only k i = go (semaphoreQueue k i)
   where
@@ -177,56 +181,59 @@ module _ (k : Kernel) (c : Call) where
   Spans n does = Spanned k (of-kind n c) (valueOf k (of-kind n c)) (does k (of-kind n c))
 
   kind-1 : Spans 1 tick
-  unfolding tick threadSpan semaphoreSpan eventSpan messageSpan
-  kind-1 = let (d, e) = pulses-parts 0 16 _ in spanned whole whole (no-event _ _ _ d) (no-message _ _ _ e)
+  unfolding tick threadSpan semaphoreSpan eventSpan messageSpan spanOf kindOf
+  kind-1 = let (d, e) = pulses-parts 0 semaphoreCount _ in spanned whole whole (no-event _ _ _ d) (no-message _ _ _ e)
 
   -- ---- threads
   kind-2 : Spans 2 createThread
-  unfolding createThread valueOf threadSpan semaphoreSpan eventSpan messageSpan
+  unfolding createThread valueOf threadSpan semaphoreSpan eventSpan messageSpan spanOf kindOf
   kind-2 = placed k (of-kind 2 c) _ refl (freeThread k) _ (still _) refl (refl, refl, refl)
 
   kind-3 : Spans 3 destroyThread
-  unfolding destroyThread freeMessages threadSpan semaphoreSpan eventSpan messageSpan
+  unfolding destroyThread freeMessages threadSpan semaphoreSpan eventSpan messageSpan spanOf kindOf
   kind-3 =
       spanned (one-thread _ _ _ refl (c .a) (λ t. relocate-other (threadsOf k) (c .a) _) (still _)) (no-semaphore _ _ _ refl refl)
       (no-event _ _ _ refl) whole
 
   kind-4 : Spans 4 setPriority
-  unfolding setPriority threadSpan semaphoreSpan eventSpan messageSpan
+  unfolding setPriority threadSpan semaphoreSpan eventSpan messageSpan spanOf kindOf
   kind-4 = placed k (of-kind 4 c) _ refl (c .a) _ (moves-which (k .runner) (of-kind 4 c)) refl (refl, refl, refl)
 
   kind-5 : Spans 5 resetPriority
-  unfolding resetPriority threadSpan semaphoreSpan eventSpan messageSpan
+  unfolding resetPriority threadSpan semaphoreSpan eventSpan messageSpan spanOf kindOf
   kind-5 = placed k (of-kind 5 c) _ refl (c .a) _ (moves-which (k .runner) (of-kind 5 c)) refl (refl, refl, refl)
 
   kind-6 : Spans 6 yielded
-  unfolding yielded threadSpan semaphoreSpan eventSpan messageSpan
+  unfolding yielded threadSpan semaphoreSpan eventSpan messageSpan spanOf kindOf
   kind-6 = placed k (of-kind 6 c) _ refl (k .runner) _ (moves-which (k .runner) (of-kind 6 c)) refl (refl, refl, refl)
 
   kind-7 : Spans 7 sleep
-  unfolding sleep block threadSpan semaphoreSpan eventSpan messageSpan
+  unfolding sleep block threadSpan semaphoreSpan eventSpan messageSpan spanOf kindOf
   kind-7 = placed k (of-kind 7 c) _ refl (k .runner) _ (still _) refl (refl, refl, refl)
 
   -- ---- semaphores
   kind-14 : Spans 14 createSemaphore
-  unfolding createSemaphore valueOf threadSpan semaphoreSpan eventSpan messageSpan
+  unfolding createSemaphore valueOf threadSpan semaphoreSpan eventSpan messageSpan spanOf kindOf
   kind-14 = counted k (of-kind 14 c) _ refl (freeSemaphore k) _ (λ _. refl) refl refl (refl, refl)
 
   kind-15 : Spans 15 destroySemaphore
-  unfolding destroySemaphore threadSpan semaphoreSpan eventSpan messageSpan
-  kind-15 = counted k (of-kind 15 c) _ refl (c .a) _ (λ _. refl) refl refl (refl, refl)
+  unfolding destroySemaphore threadSpan semaphoreSpan eventSpan messageSpan spanOf kindOf
+  kind-15 =
+      spanned (one-thread _ _ _ refl (waiterOf k c) (λ _ _. refl) (still _))
+      (one-semaphore _ _ _ refl (c .a) (λ i. getD-set-other (k .semaphores) (c .a) i _ noSemaphore))
+      (no-event _ _ _ refl) (no-message _ _ _ refl)
 
   kind-16 : Spans 16 makePeriodic
-  unfolding makePeriodic threadSpan semaphoreSpan eventSpan messageSpan
+  unfolding makePeriodic threadSpan semaphoreSpan eventSpan messageSpan spanOf kindOf
   kind-16 = counted k (of-kind 16 c) _ refl (c .a) _ (λ _. refl) refl refl (refl, refl)
 
   kind-17 : Spans 17 removePeriodic
-  unfolding removePeriodic threadSpan semaphoreSpan eventSpan messageSpan
+  unfolding removePeriodic threadSpan semaphoreSpan eventSpan messageSpan spanOf kindOf
   kind-17 = counted k (of-kind 17 c) _ refl (c .a) _ (λ _. refl) refl refl (refl, refl)
 
   -- the count goes down, or the caller blocks
   kind-18 : Spans 18 pendSemaphore
-  unfolding pendSemaphore block threadSpan semaphoreSpan eventSpan messageSpan
+  unfolding pendSemaphore block threadSpan semaphoreSpan eventSpan messageSpan spanOf kindOf
   kind-18 =
       cases (ltb 0 (semaphore k (c .a) .count))
       (λ h. rw h
@@ -239,14 +246,14 @@ module _ (k : Kernel) (c : Call) where
 
   -- the first waiter wakes, or the count goes up
   kind-19 : Spans 19 postSemaphore
-  unfolding postSemaphore threadSpan semaphoreSpan eventSpan messageSpan
+  unfolding postSemaphore threadSpan semaphoreSpan eventSpan messageSpan spanOf kindOf
   kind-19 =
       let (d, e) = post-parts (c .a) k in
       spanned (one-thread _ _ _ refl (waiterOf k c) (waiter-only k (c .a)) (still _))
       (one-semaphore _ _ _ refl (c .a) (λ i. post-other i (c .a) k)) (no-event _ _ _ d) (no-message _ _ _ e)
 
   kind-28 : Spans 28 postSemaphore
-  unfolding postSemaphore threadSpan semaphoreSpan eventSpan messageSpan
+  unfolding postSemaphore threadSpan semaphoreSpan eventSpan messageSpan spanOf kindOf
   kind-28 =
       let (d, e) = post-parts (c .a) k in
       spanned (one-thread _ _ _ refl (waiterOf k c) (waiter-only k (c .a)) (still _))
@@ -254,36 +261,38 @@ module _ (k : Kernel) (c : Call) where
 
   -- ---- events
   kind-20 : Spans 20 loadEvent
-  unfolding loadEvent workedOut threadSpan semaphoreSpan eventSpan messageSpan
+  unfolding loadEvent workedOut threadSpan semaphoreSpan eventSpan messageSpan spanOf kindOf
   kind-20 =
       spanned whole (no-semaphore _ _ _ refl refl) (one-event _ _ _ (c .a) (λ i. getD-set-other (k .events) (c .a) i _ noEvent))
       (no-message _ _ _ refl)
 
   kind-21 : Spans 21 pendEvent
-  unfolding pendEvent block threadSpan semaphoreSpan eventSpan messageSpan
+  unfolding pendEvent block threadSpan semaphoreSpan eventSpan messageSpan spanOf kindOf
   kind-21 =
       cases (isTrue (k .bits) (event k (c .a)))
       (λ h. rw h
-      (spanned (one-thread _ _ _ refl (k .runner) (λ _ _. refl) (still _)) (no-semaphore _ _ _ refl refl) (no-event _ _ _ refl)
-      (no-message _ _ _ refl)))
-      (λ h. rw h (placed k (of-kind 21 c) _ refl (k .runner) _ (still _) refl (refl, refl, refl)))
+      (spanned (one-thread _ _ _ refl (k .runner) (λ _ _. refl) (still _)) (no-semaphore _ _ _ refl refl)
+      (one-event _ _ _ (c .a) (λ _ _. refl)) (no-message _ _ _ refl)))
+      (λ h. rw h
+      (spanned (one-thread _ _ _ refl (k .runner) (λ t. relocate-other (threadsOf k) (k .runner) _) (still _))
+      (no-semaphore _ _ _ refl refl) (one-event _ _ _ (c .a) (λ _ _. refl)) (no-message _ _ _ refl)))
 
   -- ---- messages
   kind-24 : Spans 24 createMessage
-  unfolding createMessage valueOf threadSpan semaphoreSpan eventSpan messageSpan
+  unfolding createMessage valueOf threadSpan semaphoreSpan eventSpan messageSpan spanOf kindOf
   kind-24 =
       spanned (no-thread _ _ _ refl (λ _. refl) refl) (no-semaphore _ _ _ refl refl) (no-event _ _ _ refl)
       (one-message _ _ _ (freeMessage k) (λ m. repost-other (postsOf k) (freeMessage k) _))
 
   kind-25 : Spans 25 destroyMessage
-  unfolding destroyMessage threadSpan semaphoreSpan eventSpan messageSpan
+  unfolding destroyMessage threadSpan semaphoreSpan eventSpan messageSpan spanOf kindOf
   kind-25 =
       spanned (no-thread _ _ _ refl (λ _. refl) refl) (no-semaphore _ _ _ refl refl) (no-event _ _ _ refl)
       (one-message _ _ _ (c .a) (λ m. repost-other (postsOf k) (c .a) _))
 
   -- the recipient wakes, or stays as it is
   kind-26 : asByte (c .b) ≡ c .b → Spans 26 postMessage
-  unfolding postMessage handOver threadSpan semaphoreSpan eventSpan messageSpan
+  unfolding postMessage handOver threadSpan semaphoreSpan eventSpan messageSpan spanOf kindOf
   kind-26 e =
       cases (awaits (thread k (c .b) .condition) (asByte (c .c)))
       (λ h. rw (h, e)
@@ -295,7 +304,7 @@ module _ (k : Kernel) (c : Call) where
 
   -- the caller blocks, or takes a message off its channel
   kind-27 : Spans 27 pendMessage
-  unfolding pendMessage receive block valueOf threadSpan semaphoreSpan eventSpan messageSpan
+  unfolding pendMessage receive block valueOf threadSpan semaphoreSpan eventSpan messageSpan spanOf kindOf
   kind-27 =
       cases (eqb (nextMessage k (c .b)) 255)
       (λ h. rw h
@@ -306,20 +315,19 @@ module _ (k : Kernel) (c : Call) where
       (no-event _ _ _ refl) (one-message _ _ _ (nextMessage k (c .b)) (λ m. repost-other (postsOf k) (nextMessage k (c .b)) _))))
 
 -- thread b of a call of kind 26 is live, so b is a byte
-byte-named : {k : Kernel} {c : Call} → Accepted k c → length (k .threads) ≡ 32 → c .kind ≡ 26 → asByte (c .b) ≡ c .b
-unfolding badId
+byte-named : {k : Kernel} {c : Call} → Accepted k c → length (k .threads) ≡ threadCount → c .kind ≡ 26 → asByte (c .b) ≡ c .b
 byte-named {k} {c} A l e =
-    let (dead, _) = neither (not (thread k (c .b) .live)) (not (message k (c .a) .live)) (simp (e, or-false) at (A .ids)) in
-    cases (ltb (c .b) 32) (λ b. let s = ltb-true (c .b) 32 b in mod-eq-of-lt (omega arith))
-    (λ b. absurd (false≢true (rw (past-end (k .threads) noThread l (ltb-false (c .b) 32 b)) at (not-false (thread k (c .b) .live) dead))))
+    let live : thread k (c .b) .live ≡ true = thread-named A e refl in
+    cases (ltb (c .b) threadCount) (λ b. let s = ltb-true (c .b) threadCount b in mod-eq-of-lt (omega arith))
+    (λ b. absurd (false≢true (rw (past-end (k .threads) noThread l (ltb-false (c .b) threadCount b)) at live)))
 
-module _ {k : Kernel} {c : Call} (l : length (k .threads) ≡ 32) (A : Accepted k c) where
+module _ {k : Kernel} {c : Call} (l : length (k .threads) ≡ threadCount) (A : Accepted k c) where
   at-kind : {n : ℕ} (does : Kernel → Call → Kernel) → Spans k c n does → c .kind ≡ n → Spanned k c (valueOf k c) (does k c)
   at-kind does s e = subst (λ (x : Call). Spanned k x (valueOf k x) (does k x)) (ap (λ (m : ℕ). of-kind m c) (sym e)) s
 
   effect-spanned : Spanned k c (valueOf k c) (effect k c)
   unfolding pushUnscheduled popUnscheduled popAllUnscheduled pushCritical popCritical popAllCritical setBit clearBit
-      threadSpan semaphoreSpan eventSpan messageSpan
+      threadSpan semaphoreSpan eventSpan messageSpan spanOf kindOf
   effect-spanned =
       effect-of A (Spanned k c (valueOf k c)) λ kind-0.
       kind-0
@@ -360,33 +368,25 @@ scheduled-spanned : {k : Kernel} {c : Call} {v : ℕ} {u : Kernel} → Spanned k
 unfolding scheduled touchedThread touchedSemaphore touchedEvent touchedMessage
 scheduled-spanned S = record { threads = S .threads; semaphores = S .semaphores; events = S .events; messages = S .messages }
 
--- ---- the sections, and the note
+pub accepted-spanned : (k : Kernel) (c : Call) → length (k .threads) ≡ threadCount → numberOf k c ≡ 0
+    → Spanned k c (valueOf k c) (scheduled (effect k c))
+accepted-spanned k c l h = scheduled-spanned (effect-spanned l (accepted k c h))
+
+-- ---- the entries of the spans are the sections
 module _ (k : Kernel) (c : Call) (u : Kernel) {v : ℕ} (S : Spanned k c v u) where
-  threads-in : threadsIn k c u (threadSpan c (k .runner) v (waiterOf k c)) ≡ threadsSection k c u
-  unfolding threadsSection
-  threads-in = part-entries (S .threads) (threadEntry k c u)
+  pub threads-in : inSpan (threadSpan c (k .runner) v (waiterOf k c)) (threadEntries c (k .runner) (threadsOf k) (u .threads))
+      ≡ threadsSection k c u
+  unfolding threadsSection touchedThread
+  threads-in = part-entries (S .threads) (threadEntry c (threadsOf k) (u .threads))
 
-  semaphores-in : semaphoresIn k c u (semaphoreSpan c v) ≡ semaphoresSection k c u
-  unfolding semaphoresSection
-  semaphores-in = part-entries (S .semaphores) (semaphoreEntry k c u)
+  pub semaphores-in : inSpan (semaphoreSpan c v) (semaphoreEntries c (k .semaphores) (u .semaphores)) ≡ semaphoresSection k c u
+  unfolding semaphoresSection touchedSemaphore
+  semaphores-in = part-entries (S .semaphores) (semaphoreEntry c (k .semaphores) (u .semaphores))
 
-  events-in : eventsIn k c u (eventSpan c) ≡ eventsSection k c u
-  unfolding eventsSection
-  events-in = ap (λ (l : List ℕ). cond (eqb (k .bits) (u .bits)) [] (8 ∷ []) ++ l) (part-entries (S .events) (eventEntry k c u))
+  pub events-in : bitNoted (k .bits) (u .bits) ++ inSpan (eventSpan c) (eventEntries (k .events) (u .events)) ≡ eventsSection k c u
+  unfolding eventsSection touchedEvent
+  events-in = ap (λ (l : List ℕ). bitNoted (k .bits) (u .bits) ++ l) (part-entries (S .events) (eventEntry (k .events) (u .events)))
 
-  messages-in : messagesIn k c u (messageSpan c v) ≡ messagesSection k c u
-  unfolding messagesSection
-  messages-in = part-entries (S .messages) (messageEntry k c u)
-
-front-in : (k : Kernel) (bytes : List ℕ) (u : Kernel) (v : ℕ) → Spanned k (callOf bytes) v u → frontIn k bytes u v ≡ beforeLength k bytes u
-unfolding frontIn beforeLength
-front-in k bytes u v S =
-    let c = callOf bytes in
-    rw (threads-in k c u S, semaphores-in k c u S, events-in k c u S, messages-in k c u S)
-
-pub note-in : (k : Kernel) (bytes : List ℕ) → length (k .threads) ≡ 32 → numberOf k (callOf bytes) ≡ 0
-    → noteIn k bytes (scheduled (effect k (callOf bytes))) (valueOf k (callOf bytes)) ≡ noteOf k bytes (scheduled (effect k (callOf bytes)))
-unfolding noteIn noteOf
-note-in k bytes l h =
-    let c = callOf bytes in
-    rw (front-in k bytes (scheduled (effect k c)) (valueOf k c) (scheduled-spanned (effect-spanned l (accepted k c h))))
+  pub messages-in : inSpan (messageSpan c v) (messageEntries c (u .runner) (postsOf k) (u .messages)) ≡ messagesSection k c u
+  unfolding messagesSection touchedMessage
+  messages-in = part-entries (S .messages) (messageEntry c (u .runner) (postsOf k) (u .messages))

@@ -10,7 +10,6 @@ ghost use Rattle.spec_notes.specs.Rows.{conditionCode, threadCode, conditionDat
 ghost use Rattle.spec_notes.specs.Rows.{threadRow, threadWidths, conditionFrom, wakeFrom, threadFrom};
 ghost use Rattle.spec_notes.specs.Touched.{sameThread, oneTickMore, youngerThread};
 ghost use Rattle.spec_notes.specs.Predicted.{wasBlocked, predictedThread};
-use base_rows::rows;
 use base_rows::rows::Row;
 use code_kernel::conditions;
 use code_notes_entries::choices::word;
@@ -19,13 +18,6 @@ use spec_kernel::records::Condition;
 use spec_kernel::records::Object;
 use spec_kernel::records::Thread;
 use spec_kernel::records::Wake;
-
-// The widths of a thread's fields, in bytes.
-pub fn widths() -> [u8; 8]
-    ensures { λ r. ⌜ r ≡ threadWidths ⌝ }
-{
-    [1, 1, 2, 4, 1, 1, 1, 1]
-}
 
 fn condition_code(c: Condition) -> u8
     ensures { λ r. ⌜ r ≡ conditionCode c ⌝ }
@@ -82,6 +74,12 @@ pub fn code_of(r: Thread) -> u8
     let c = r.condition;
     condition_code(c)
 }
+
+// The widths of a row's fields, in bytes.
+pub const WIDTHS: [u8; 8] = [1, 1, 2, 4, 1, 1, 1, 1];
+
+// The longest entry: id, code, flags and every field.
+pub const LONGEST: usize = 15;
 
 pub fn row_of(r: Thread, place: u8, due: u8) -> Row
     ensures { λ x. ⌜ x .fields ≡ threadRow r place due ⌝ }

@@ -2,16 +2,18 @@
 ghost use mathlib.Core.Path.{_≡_};
 ghost use Rattle.base_bytes.specs.Pens.{pen, puts};
 ghost use Rattle.spec_notes.specs.Touched.{movesInPlace, changedThread};
-ghost use Rattle.spec_notes.specs.Sections.{entriesFrom, threadNoted};
-ghost use Rattle.code_notes_threads.specs.ThreadEntries.{isChanged, entryOf, entryIn};
+ghost use Rattle.spec_notes.specs.Sections.{threadNoted, threadEntries};
+ghost use Rattle.code_notes_threads.specs.ThreadEntries.{entryIn};
 use base_bytes::pens;
 use base_queue::Queue;
 use code_kernel::records::no_thread;
 use code_notes_entries::fields::put_fields;
 use code_notes_entries::old_places::old_place;
 use code_notes_thread_rows::thread_rows;
+use code_notes_thread_rows::thread_rows::WIDTHS;
 use spec_calls::call::Call;
 use spec_kernel::records::Thread;
+use spec_kernel::sizes::THREADS;
 use spec_moves::parts::Threads;
 
 // A yield, and a priority that is set or reset, move a thread though its record may stay.
@@ -57,7 +59,7 @@ fn put_thread(
     let guessed = guess.fields;
     let p = pens::put_byte(log, at, t);
     let q = pens::put_byte(log, p, code);
-    put_fields(log, q, thread_rows::widths(), fields, guessed)
+    put_fields(log, q, WIDTHS, fields, guessed)
 }
 
 // The entry of an id with its two records, where the call touched it. An id above 255 is nobody's.
@@ -86,6 +88,8 @@ fn put_touched(
     put_thread(log, at, id, c, before, place, due, after)
 }
 
+const IDS: u32 = THREADS as u32;
+
 // The entries of so many ids from the first on. The records are read in place: a call that takes the array copies it for every id.
 pub fn put_threads(
     log: &mut [u8],
@@ -93,12 +97,11 @@ pub fn put_threads(
     c: Call,
     runner: u8,
     old: Threads,
-    new: [Thread; 32],
+    new: [Thread; THREADS],
     first: u16,
     count: u8,
 ) -> usize
-    ensures { λ r. ⌜ pen (now (log .exit)) r
-        ≡ puts (pen (now (log .entry)) at) (entriesFrom (isChanged c runner old new) (entryOf c old new) first count) ⌝ }
+    ensures { λ r. ⌜ pen (now (log .exit)) r ≡ puts (pen (now (log .entry)) at) (threadEntries c runner old new first count) ⌝ }
 {
     let places = old.places;
     let time = old.time;
@@ -109,7 +112,7 @@ pub fn put_threads(
     while 0 < left {
         let mut before = nobody;
         let mut after = nobody;
-        if t < 32 {
+        if t < IDS {
             let i = t as usize;
             before = old.records[i];
             after = new[i];

@@ -1,21 +1,40 @@
 // The refusals in table order, over what a call names.
 ghost use mathlib.Core.Path.{_≡_};
-ghost use mathlib.Core.List.{[], _∷_};
-ghost use Rattle.spec_refusals.specs.Refusals.{isOneOf, outside, unknown, badNumber, popsNothingAt};
-ghost use Rattle.code_calls.specs.Named.{badIdOf, hasWaitersOf, stopsCallerOf, blocksOf, noneFreeOf};
-ghost use Rattle.code_calls.specs.Named.{firstNumber, secondNumber, thirdNumber, numberFrom};
-use code_calls::named::Named;
+ghost use mathlib.Core.Bool.{_&&_};
+ghost use Rattle.spec_calls.specs.Kinds.{kindOf};
+ghost use Rattle.spec_refusals.specs.Refusals.{outside, unknown, badNumber, badId, popsNothing, stopsCaller, blocksInRegion, noneFree};
+ghost use Rattle.spec_refusals.specs.Refusals.{numberFrom};
+use code_calls::kinds::kind_of;
+use code_calls::kinds::names;
+use code_kernel::places::is_queued;
 use spec_calls::call::Call;
+use spec_calls::kinds::A;
+use spec_calls::kinds::BIT;
+use spec_calls::kinds::Kind;
+use spec_kernel::sizes;
+use spec_refusals::named::Named;
 
 mod kinds;
 
-fn unknown(c: Call) -> bool
+// The lowest priority and the last channel, to compare a field of four bytes with.
+const PRIORITY: u32 = sizes::PRIORITIES as u32;
+
+const CHANNEL: u32 = sizes::CHANNELS as u32;
+
+fn both(a: bool, b: bool) -> bool
+    ensures { λ r. ⌜ r ≡ (a && b) ⌝ }
+{
+    if a { b } else { false }
+}
+
+fn unknown(kind: Kind, c: Call) -> bool
+    requires { ⌜ kind ≡ kindOf c ⌝ }
     ensures { λ r. ⌜ r ≡ unknown c ⌝ }
 {
     if !kinds::is_known(c) {
         return true;
     }
-    !kinds::unused_are_zero(c)
+    !kinds::unused_are_zero(kind, c)
 }
 
 fn outside(low: u32, high: u32, n: u32) -> bool
@@ -32,8 +51,8 @@ fn bad_number(c: Call) -> bool
 {
     let kind = c.kind;
     match kind {
-        2 => outside(1, 30, c.a as u32),
-        4 => outside(1, 30, c.b as u32),
+        2 => outside(1, PRIORITY, c.a as u32),
+        4 => outside(1, PRIORITY, c.b as u32),
         7 => c.c == 0,
         14 => {
             if outside(1, 65535, c.c) {
@@ -48,55 +67,33 @@ fn bad_number(c: Call) -> bool
             c.d == 0
         }
         20 => 1 < c.b,
-        26 => outside(1, 15, c.c),
+        26 => outside(1, CHANNEL, c.c),
         27 => outside(1, 32767, c.b as u32),
         _ => false,
     }
 }
 
-fn bad_id(n: Named, c: Call) -> bool
-    ensures { λ r. ⌜ r ≡ badIdOf n c ⌝ }
+fn bad_id(n: Named, kind: Kind, c: Call) -> bool
+    requires { ⌜ kind ≡ kindOf c ⌝ }
+    ensures { λ r. ⌜ r ≡ badId n c ⌝ }
 {
-    let kind = c.kind;
-    match kind {
-        3 | 4 | 5 => !n.thread,
-        15 | 16 | 17 | 18 | 19 | 28 => !n.semaphore.live,
-        20 | 21 => 7 < c.a,
-        22 | 23 | 29 | 30 => 31 < c.a,
-        25 => !n.message.live,
-        26 => {
-            if !n.other {
-                return true;
-            }
-            !n.message.live
-        }
-        _ => false,
+    if both(names(kind.thread), !n.thread) {
+        return true;
     }
-}
-
-// Kinds 25 and 26.
-fn names_message(c: Call) -> bool
-    ensures { λ r. ⌜ r ≡ isOneOf c (25 ∷ 26 ∷ []) ⌝ }
-{
-    let kind = c.kind;
-    match kind {
-        25 | 26 => true,
-        _ => false,
+    if both(names(kind.semaphore), !n.semaphore.live) {
+        return true;
     }
-}
-
-// Kind 15, where threads wait on the semaphore.
-fn has_waiters(n: Named, c: Call) -> bool
-    ensures { λ r. ⌜ r ≡ hasWaitersOf n c ⌝ }
-{
-    if c.kind != 15 {
-        return false;
+    if both(kind.event == A, sizes::EVENT_IDS <= c.a) {
+        return true;
     }
-    n.waiter != 255
+    if both(kind.event == BIT, sizes::BITS <= c.a) {
+        return true;
+    }
+    both(names(kind.message), !n.message.live)
 }
 
 fn pops_nothing(unscheduled: u8, critical: u8, c: Call) -> bool
-    ensures { λ r. ⌜ r ≡ popsNothingAt unscheduled critical c ⌝ }
+    ensures { λ r. ⌜ r ≡ popsNothing unscheduled critical c ⌝ }
 {
     let kind = c.kind;
     match kind {
@@ -106,8 +103,8 @@ fn pops_nothing(unscheduled: u8, critical: u8, c: Call) -> bool
     }
 }
 
-fn stops_caller(n: Named, runner: u8, c: Call) -> bool
-    ensures { λ r. ⌜ r ≡ stopsCallerOf n runner c ⌝ }
+fn stops_caller(runner: u8, n: Named, c: Call) -> bool
+    ensures { λ r. ⌜ r ≡ stopsCaller runner n c ⌝ }
 {
     let kind = c.kind;
     match kind {
@@ -122,19 +119,19 @@ fn stops_caller(n: Named, runner: u8, c: Call) -> bool
 
 // Inside a region, a call that would stop the caller.
 fn blocks_in_region(unscheduled: u8, critical: u8, runner: u8, n: Named, c: Call) -> bool
-    ensures { λ r. ⌜ r ≡ blocksOf unscheduled critical runner n c ⌝ }
+    ensures { λ r. ⌜ r ≡ blocksInRegion unscheduled critical runner n c ⌝ }
 {
     if unscheduled == 0 {
         if critical == 0 {
             return false;
         }
     }
-    stops_caller(n, runner, c)
+    stops_caller(runner, n, c)
 }
 
 // No free id, or a push at level 255.
 fn none_free(unscheduled: u8, critical: u8, n: Named, c: Call) -> bool
-    ensures { λ r. ⌜ r ≡ noneFreeOf unscheduled critical n c ⌝ }
+    ensures { λ r. ⌜ r ≡ noneFree unscheduled critical n c ⌝ }
 {
     let kind = c.kind;
     match kind {
@@ -145,55 +142,37 @@ fn none_free(unscheduled: u8, critical: u8, n: Named, c: Call) -> bool
     }
 }
 
-// The refusals that a call can meet before its ids are looked at.
-fn first_refusal(critical: u8, runner: u8, c: Call) -> u8
-    ensures { λ r. ⌜ r ≡ firstNumber critical runner c ⌝ }
+// The number of the answer, by the levels, who runs and what the call names: 0 where it is accepted.
+pub fn number_of(unscheduled: u8, critical: u8, runner: u8, n: Named, c: Call) -> u8
+    ensures { λ r. ⌜ r ≡ numberFrom unscheduled critical runner n c ⌝ }
 {
-    if unknown(c) {
+    let kind = kind_of(c);
+    if unknown(kind, c) {
         return 1;
     }
-    if kinds::from_interrupt(c) {
-        if 0 < critical {
-            return 3;
-        }
+    if both(kinds::from_interrupt(kind, c), 0 < critical) {
+        return 3;
     }
-    if kinds::from_thread(c) {
-        if runner == 255 {
-            return 2;
-        }
+    if both(kinds::from_thread(kind, c), runner == 255) {
+        return 2;
     }
-    if bad_number(c) { 5 } else { 0 }
-}
-
-// The refusals of the records that it names.
-fn second_refusal(n: Named, runner: u8, c: Call) -> u8
-    ensures { λ r. ⌜ r ≡ secondNumber n runner c ⌝ }
-{
-    if bad_id(n, c) {
+    if bad_number(c) {
+        return 5;
+    }
+    if bad_id(n, kind, c) {
         return 4;
     }
-    if names_message(c) {
-        if code_kernel::places::is_queued(n.message) {
-            return 9;
-        }
-        if n.message.owner != runner {
-            return 8;
-        }
+    if both(kinds::names_message(kind, c), is_queued(n.message)) {
+        return 9;
     }
-    0
-}
-
-// The refusals of what it would do.
-fn third_refusal(unscheduled: u8, critical: u8, runner: u8, n: Named, c: Call) -> u8
-    ensures { λ r. ⌜ r ≡ thirdNumber unscheduled critical runner n c ⌝ }
-{
-    if has_waiters(n, c) {
+    if both(kinds::names_message(kind, c), n.message.owner != runner) {
+        return 8;
+    }
+    if both(c.kind == 15, n.waiter != 255) {
         return 10;
     }
-    if c.kind == 17 {
-        if n.semaphore.period == 0 {
-            return 12;
-        }
+    if both(c.kind == 17, n.semaphore.period == 0) {
+        return 12;
     }
     if pops_nothing(unscheduled, critical, c) {
         return 11;
@@ -201,24 +180,6 @@ fn third_refusal(unscheduled: u8, critical: u8, runner: u8, n: Named, c: Call) -
     if blocks_in_region(unscheduled, critical, runner, n, c) {
         return 6;
     }
-    if none_free(unscheduled, critical, n, c) {
-        7
-    } else {
-        0
-    }
-}
-
-// The number of the answer, by the levels, who runs and what the call names: 0 where it is accepted.
-pub fn number_of(unscheduled: u8, critical: u8, runner: u8, n: Named, c: Call) -> u8
-    ensures { λ r. ⌜ r ≡ numberFrom unscheduled critical runner n c ⌝ }
-{
-    let first = first_refusal(critical, runner, c);
-    if first != 0 {
-        return first;
-    }
-    let second = second_refusal(n, runner, c);
-    if second != 0 {
-        return second;
-    }
-    third_refusal(unscheduled, critical, runner, n, c)
+    let full = none_free(unscheduled, critical, n, c);
+    if full { 7 } else { 0 }
 }

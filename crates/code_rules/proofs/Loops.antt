@@ -11,7 +11,7 @@ use lib.Seq.{drop-cons}
 use borrow.Author.Tests.{eq-eqb, ne-eqb, le-leb, lt-leb}
 use Rattle.base_queue.specs.declared.Queue.{Queue}
 use Rattle.base_queue.specs.Lists.{everyFrom, count, below}
-use Rattle.base_queue.specs.Queues.{items}
+use Rattle.base_queue.specs.Queues.{capacity, items}
 use Rattle.base_queue.specs.Tables.{one, isPlaced, isOrderedFrom}
 use Rattle.base_queue.proofs.Lists.{rest-next, rest-end}
 use Rattle.base_queue.proofs.Queues.{Walk, walk-start, sized-items}
@@ -22,7 +22,7 @@ abbrev pub Climb : (ℕ → ℕ) → List ℕ → ℕ → ℕ → ℕ → Type 0
 Climb key at n low i = Walk at n i × (isOrderedFrom 0 key (take n at) ≡ isOrderedFrom low key (drop i (take n at)))
 
 module _ (key : ℕ → ℕ) (q : Queue) (n : ℕ) (s : n ≡ length (items q)) where
-  pub climb-starts : length (q .at) ≡ 64 → Climb key (q .at) n 0 0
+  pub climb-starts : length (q .at) ≡ capacity → Climb key (q .at) n 0 0
   climb-starts e = (walk-start q n s 0 (omega arith) e, refl)
 
   module _ (low i : ℕ) (w : Climb key (q .at) n low i) where

@@ -3,6 +3,7 @@ ghost use mathlib.Core.Path.{_≡_};
 ghost use Rattle.spec_rules.specs.Tests.{placesKept, timeKept, postedKept, threadsKept};
 ghost use Rattle.spec_rules.specs.Tests.{semaphoresKept, messagesKept, runnerKept, keepsRules};
 use spec_kernel::records::Kernel;
+use spec_kernel::sizes;
 
 mod tables;
 
@@ -60,7 +61,7 @@ fn threads_kept(k: Kernel) -> bool
     let semaphores = k.semaphores;
     let events = k.events;
     let mut t: usize = 0;
-    while t < 32 {
+    while t < sizes::THREADS {
         let r = k.threads[t];
         if !code_rules_records::thread_kept(semaphores, events, k.bits, r) {
             return false;
@@ -74,7 +75,7 @@ fn semaphores_kept(k: Kernel) -> bool
     ensures { λ r. ⌜ r ≡ semaphoresKept k ⌝ }
 {
     let mut i: usize = 0;
-    while i < 16 {
+    while i < sizes::SEMAPHORES {
         let r = k.semaphores[i];
         if !code_rules_records::semaphore_kept(r) {
             return false;
@@ -89,7 +90,7 @@ fn messages_kept(k: Kernel) -> bool
 {
     let threads = k.threads;
     let mut m: usize = 0;
-    while m < 64 {
+    while m < sizes::MESSAGES {
         let r = k.messages[m];
         if !code_rules_records::message_kept(threads, r) {
             return false;
@@ -108,7 +109,7 @@ fn runner_kept(k: Kernel) -> bool
             return k.runner == code_kernel::runner::chosen(k);
         }
     }
-    if 32 <= k.runner {
+    if sizes::THREAD_IDS <= k.runner {
         return false;
     }
     let i = k.runner as usize;

@@ -10,6 +10,7 @@ use code_kernel::places;
 use code_kernel_find::by_id;
 use spec_kernel::records::Message;
 use spec_kernel::records::Thread;
+use spec_kernel::sizes;
 
 // How often one that belongs, or doesn't, stands in a table.
 fn times(belongs: bool) -> usize
@@ -18,14 +19,14 @@ fn times(belongs: bool) -> usize
     if belongs { 1 } else { 0 }
 }
 
-pub fn places_stand(threads: [Thread; 32], q: Queue) -> bool
+pub fn places_stand(threads: [Thread; sizes::THREADS], q: Queue) -> bool
     ensures { λ b. ⌜ b ≡ isPlaced hasHome threads (items q) ⌝ }
 {
-    if !base_queue::all_below(q, 32) {
+    if !base_queue::all_below(q, sizes::THREAD_IDS) {
         return false;
     }
     let mut t: usize = 0;
-    while t < 32 {
+    while t < sizes::THREADS {
         let r = threads[t];
         if base_queue::count(q, t as u8) != times(places::has_home(r)) {
             return false;
@@ -35,14 +36,14 @@ pub fn places_stand(threads: [Thread; 32], q: Queue) -> bool
     true
 }
 
-pub fn time_stands(threads: [Thread; 32], q: Queue) -> bool
+pub fn time_stands(threads: [Thread; sizes::THREADS], q: Queue) -> bool
     ensures { λ b. ⌜ b ≡ isPlaced isTicking threads (items q) ⌝ }
 {
-    if !base_queue::all_below(q, 32) {
+    if !base_queue::all_below(q, sizes::THREAD_IDS) {
         return false;
     }
     let mut t: usize = 0;
-    while t < 32 {
+    while t < sizes::THREADS {
         let r = threads[t];
         if base_queue::count(q, t as u8) != times(0 < r.ticks) {
             return false;
@@ -52,14 +53,14 @@ pub fn time_stands(threads: [Thread; 32], q: Queue) -> bool
     true
 }
 
-pub fn posts_stand(messages: [Message; 64], q: Queue) -> bool
+pub fn posts_stand(messages: [Message; sizes::MESSAGES], q: Queue) -> bool
     ensures { λ b. ⌜ b ≡ isPlaced isQueued messages (items q) ⌝ }
 {
-    if !base_queue::all_below(q, 64) {
+    if !base_queue::all_below(q, sizes::MESSAGE_IDS) {
         return false;
     }
     let mut m: usize = 0;
-    while m < 64 {
+    while m < sizes::MESSAGES {
         let r = messages[m];
         if base_queue::count(q, m as u8) != times(places::is_queued(r)) {
             return false;
@@ -77,7 +78,12 @@ pub enum Order {
 }
 
 // What the member of this id is in order by.
-fn key_of(threads: [Thread; 32], messages: [Message; 64], by: Order, id: u8) -> u32
+fn key_of(
+    threads: [Thread; sizes::THREADS],
+    messages: [Message; sizes::MESSAGES],
+    by: Order,
+    id: u8,
+) -> u32
     ensures { λ n. ⌜ n ≡ keyOf by threads messages id ⌝ }
 {
     match by {
@@ -88,7 +94,12 @@ fn key_of(threads: [Thread; 32], messages: [Message; 64], by: Order, id: u8) -> 
 }
 
 // Whether no member's key is less than that of the one before.
-pub fn in_order(threads: [Thread; 32], messages: [Message; 64], by: Order, q: Queue) -> bool
+pub fn in_order(
+    threads: [Thread; sizes::THREADS],
+    messages: [Message; sizes::MESSAGES],
+    by: Order,
+    q: Queue,
+) -> bool
     ensures { λ b. ⌜ b ≡ isOrderedFrom 0 (keyOf by threads messages) (items q) ⌝ }
 {
     let at = q.at;

@@ -9,6 +9,7 @@ use spec_kernel::records::Message;
 use spec_kernel::records::Semaphore;
 use spec_kernel::records::Thread;
 use spec_kernel::records::Wake;
+use spec_kernel::sizes;
 
 fn no_wake(w: Wake) -> bool
     ensures { λ r. ⌜ r ≡ noWake w ⌝ }
@@ -81,10 +82,10 @@ fn is_no_message(r: Message) -> bool
 }
 
 // A live semaphore that nobody need wait for at a count above 0.
-fn semaphore_waited(semaphores: [Semaphore; 16], i: u8) -> bool
+fn semaphore_waited(semaphores: [Semaphore; sizes::SEMAPHORES], i: u8) -> bool
     ensures { λ b. ⌜ b ≡ semaphoreWaited semaphores i ⌝ }
 {
-    if 16 <= i {
+    if sizes::SEMAPHORE_IDS <= i {
         return false;
     }
     let j = i as usize;
@@ -96,10 +97,10 @@ fn semaphore_waited(semaphores: [Semaphore; 16], i: u8) -> bool
 }
 
 // An event that isn't TRUE.
-fn event_waited(events: [Event; 8], bits: u32, i: u8) -> bool
+fn event_waited(events: [Event; sizes::EVENTS], bits: u32, i: u8) -> bool
     ensures { λ b. ⌜ b ≡ eventWaited events bits i ⌝ }
 {
-    if 8 <= i {
+    if sizes::EVENT_IDS <= i {
         return false;
     }
     let j = i as usize;
@@ -108,8 +109,8 @@ fn event_waited(events: [Event; 8], bits: u32, i: u8) -> bool
 }
 
 fn condition_kept(
-    semaphores: [Semaphore; 16],
-    events: [Event; 8],
+    semaphores: [Semaphore; sizes::SEMAPHORES],
+    events: [Event; sizes::EVENTS],
     bits: u32,
     ticks: u32,
     c: Condition,
@@ -130,22 +131,27 @@ fn condition_kept(
     }
 }
 
-fn live_thread_kept(semaphores: [Semaphore; 16], events: [Event; 8], bits: u32, r: Thread) -> bool
+fn live_thread_kept(
+    semaphores: [Semaphore; sizes::SEMAPHORES],
+    events: [Event; sizes::EVENTS],
+    bits: u32,
+    r: Thread,
+) -> bool
     ensures { λ b. ⌜ b ≡ liveThreadKept semaphores events bits r ⌝ }
 {
     if r.priority == 0 {
         return false;
     }
-    if 30 < r.priority {
+    if sizes::PRIORITIES < r.priority {
         return false;
     }
     if r.first == 0 {
         return false;
     }
-    if 30 < r.first {
+    if sizes::PRIORITIES < r.first {
         return false;
     }
-    if 64 <= r.reply {
+    if sizes::MESSAGE_IDS <= r.reply {
         if r.reply != 255 {
             return false;
         }
@@ -154,7 +160,12 @@ fn live_thread_kept(semaphores: [Semaphore; 16], events: [Event; 8], bits: u32, 
     condition_kept(semaphores, events, bits, r.ticks, c)
 }
 
-pub fn thread_kept(semaphores: [Semaphore; 16], events: [Event; 8], bits: u32, r: Thread) -> bool
+pub fn thread_kept(
+    semaphores: [Semaphore; sizes::SEMAPHORES],
+    events: [Event; sizes::EVENTS],
+    bits: u32,
+    r: Thread,
+) -> bool
     ensures { λ b. ⌜ b ≡ threadKept semaphores events bits r ⌝ }
 {
     if r.live {
@@ -189,10 +200,10 @@ pub fn semaphore_kept(r: Semaphore) -> bool
     }
 }
 
-fn live_message_kept(threads: [Thread; 32], r: Message) -> bool
+fn live_message_kept(threads: [Thread; sizes::THREADS], r: Message) -> bool
     ensures { λ b. ⌜ b ≡ liveMessageKept threads r ⌝ }
 {
-    if 32 <= r.owner {
+    if sizes::THREAD_IDS <= r.owner {
         return false;
     }
     let i = r.owner as usize;
@@ -200,17 +211,17 @@ fn live_message_kept(threads: [Thread; 32], r: Message) -> bool
     if !owner.live {
         return false;
     }
-    if 32 <= r.sender {
+    if sizes::THREAD_IDS <= r.sender {
         return false;
     }
-    if 15 < r.channel {
+    if sizes::CHANNELS < r.channel {
         return false;
     }
     let c = owner.condition;
     !code_kernel::conditions::awaits(c, r.channel)
 }
 
-pub fn message_kept(threads: [Thread; 32], r: Message) -> bool
+pub fn message_kept(threads: [Thread; sizes::THREADS], r: Message) -> bool
     ensures { λ b. ⌜ b ≡ messageKept threads r ⌝ }
 {
     if r.live {

@@ -7,6 +7,7 @@ ghost use Rattle.spec_semaphores.specs.Semaphores.{withCount, withTicks, create
 ghost use Rattle.spec_semaphores.specs.Semaphores.{removePeriodic, pendSemaphore, raised, post, postSemaphore};
 use crate::waiting;
 use crate::waiting::Waiting;
+use code_kernel::places::OF_SEMAPHORES;
 use code_kernel::records::no_semaphore;
 use code_kernel_find::by_id;
 use code_kernel_find::firsts;
@@ -17,12 +18,13 @@ use spec_kernel::records::Condition;
 use spec_kernel::records::Kernel;
 use spec_kernel::records::Semaphore;
 use spec_kernel::records::Wake;
+use spec_kernel::sizes::SEMAPHORE_IDS;
 
 pub fn with_semaphore(k: Kernel, i: u8, r: Semaphore) -> Kernel
     ensures { λ x. ⌜ x ≡ withSemaphore i r k ⌝ }
 {
     let mut next = k;
-    if i < 16 {
+    if i < SEMAPHORE_IDS {
         let j = i as usize;
         next.semaphores[j] = r;
     }
@@ -115,7 +117,7 @@ pub fn post(w: Waiting, i: u8) -> Waiting
     let records = p.records;
     let places = p.places;
     let semaphores = w.semaphores;
-    let first = firsts::first_at_home(records, places, 256 + (i as u16));
+    let first = firsts::first_at_home(records, places, OF_SEMAPHORES + (i as u16));
     let wakes = first != 255;
     let next = waiting::stored(w, i, counted(by_id::semaphore_at(semaphores, i), wakes));
     if first == 255 {

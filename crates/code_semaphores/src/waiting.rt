@@ -4,11 +4,12 @@ ghost use Rattle.code_semaphores.specs.Waiting.{waitingOf, withWaiting, 
 use code_moves::states;
 use spec_kernel::records::Kernel;
 use spec_kernel::records::Semaphore;
+use spec_kernel::sizes;
 use spec_moves::parts::Threads;
 
 pub struct Waiting {
     pub threads: Threads,
-    pub semaphores: [Semaphore; 16],
+    pub semaphores: [Semaphore; sizes::SEMAPHORES],
 }
 
 pub fn waiting_of(k: Kernel) -> Waiting
@@ -36,7 +37,7 @@ pub fn stored(w: Waiting, i: u8, r: Semaphore) -> Waiting
     ensures { λ x. ⌜ x ≡ storing i r w ⌝ }
 {
     let mut next = w;
-    if i < 16 {
+    if i < sizes::SEMAPHORE_IDS {
         let j = i as usize;
         next.semaphores[j] = r;
     }

@@ -7,7 +7,7 @@ use native.Mathlib.Omega.{arith}
 use lib.ListN.{length, take, getD}
 use Rattle.base_queue.specs.declared.Queue.{Queue}
 use Rattle.base_queue.specs.Lists.{keep}
-use Rattle.base_queue.specs.Queues.{items}
+use Rattle.base_queue.specs.Queues.{capacity, items}
 use Rattle.base_queue.proofs.Lists.{keep-next}
 use Rattle.base_queue.proofs.Queues.{Walk, walk-start, sized-items}
 use Rattle.spec_moves.specs.declared.parts.Threads.{Threads}
@@ -34,7 +34,7 @@ module _ (f : ℕ → Threads → Threads) where
       walk-skips e = (omega arith, rw (keep-next g 0 at i (omega arith), e, append-nil) (w .1))
 
     module _ (q : Queue) (n : ℕ) (s : n ≡ length (items q)) where
-      pub walk-starts : length (q .at) ≡ 64 → Walked (q .at) n 0 p
+      pub walk-starts : length (q .at) ≡ capacity → Walked (q .at) n 0 p
       walk-starts e = (walk-start q n s 0 (omega arith) e, refl)
 
       pub walk-ends : {i : ℕ} {next : Threads} → Walked (q .at) n i next → n ≤ i → next ≡ each f (keep g (items q)) p

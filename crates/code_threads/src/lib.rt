@@ -7,9 +7,11 @@ ghost use Rattle.base_queue.specs.Lists.{keep};
 ghost use Rattle.base_queue.specs.Queues.{items, pack};
 ghost use Rattle.spec_kernel.specs.Records.{noMessage};
 ghost use Rattle.spec_moves.specs.Moves.{relocate, threadIn};
-ghost use Rattle.spec_threads.specs.Threads.{born, blocked, awake, withPriority, block, createThread, owns};
+ghost use Rattle.spec_threads.specs.Threads.{born, blocked, awake, withPriority, block, wokenIn, createThread, owns};
 ghost use Rattle.spec_threads.specs.Threads.{freedFrom, freeMessages, destroyThread, setPriority, resetPriority, yielded, sleep};
+use base_queue::CAPACITY;
 use base_queue::Queue;
+use code_kernel::places;
 use code_kernel::records::no_message;
 use code_kernel::records::no_thread;
 use code_kernel_find::by_id;
@@ -21,6 +23,7 @@ use spec_kernel::records::Kernel;
 use spec_kernel::records::Message;
 use spec_kernel::records::Thread;
 use spec_kernel::records::Wake;
+use spec_kernel::sizes;
 use spec_moves::parts::Threads;
 
 // A new thread's record.
@@ -94,6 +97,32 @@ pub fn woken(p: Threads, t: u8, why: Wake) -> Threads
     code_moves::relocated(p, t, awake(r, why, r.reply))
 }
 
+// Everybody whose home is h wakes, in the order of the table: the one place that empties a queue.
+pub fn woken_in(p: Threads, h: u16) -> Threads
+    ensures { λ x. ⌜ x ≡ wokenIn h p ⌝ }
+{
+    let before = p.records;
+    let q = p.places;
+    let at = q.at;
+    let n = base_queue::size(q);
+    let mut next = p;
+    let mut i: usize = 0;
+    while i < n {
+        let t = at[i];
+        i += 1;
+        let mut home = places::NOWHERE;
+        if t < sizes::THREAD_IDS {
+            let j = t as usize;
+            let r = before[j];
+            home = places::home_of(r);
+        }
+        if home == h {
+            next = woken(next, t, Wake::Met);
+        }
+    }
+    next
+}
+
 pub fn create_thread(k: Kernel, c: Call) -> Kernel
     ensures { λ x. ⌜ x ≡ createThread k c ⌝ }
 {
@@ -121,12 +150,12 @@ fn freed_from(t: u8, r: Message) -> Message
 }
 
 // Every message that thread t owns is freed,
-fn freed_records(messages: [Message; 64], t: u8) -> [Message; 64]
+fn freed_records(messages: [Message; sizes::MESSAGES], t: u8) -> [Message; sizes::MESSAGES]
     ensures { λ x. ⌜ x ≡ map (freedFrom t) messages ⌝ }
 {
     let mut next = messages;
     let mut m: usize = 0;
-    while m < 64 {
+    while m < sizes::MESSAGES {
         let r = messages[m];
         next[m] = freed_from(t, r);
         m += 1;
@@ -135,12 +164,12 @@ fn freed_records(messages: [Message; 64], t: u8) -> [Message; 64]
 }
 
 // and leaves its channel.
-fn freed_posts(messages: [Message; 64], posted: Queue, t: u8) -> Queue
+fn freed_posts(messages: [Message; sizes::MESSAGES], posted: Queue, t: u8) -> Queue
     ensures { λ x. ⌜ x ≡ pack (keep (λ m. not (owns t (getD messages m noMessage))) (items posted)) ⌝ }
 {
     let at = posted.at;
     let n = base_queue::size(posted);
-    let mut a = [0u8; 64];
+    let mut a = [0u8; CAPACITY];
     let mut k: usize = 0;
     let mut i: usize = 0;
     while i < n {

@@ -3,6 +3,7 @@ ghost use mathlib.Core.Path.{_≡_};
 ghost use mathlib.Core.List.{map};
 ghost use Rattle.spec_moves.specs.States.{each};
 ghost use Rattle.code_semaphores.specs.Waiting.{Does};
+ghost use Rattle.spec_kernel.specs.Sizes.{semaphoreCount};
 ghost use Rattle.spec_time.specs.Time.{later, reasonAt, timeUp, due, aged, timePasses, pulse, pulseFrom, tick};
 use code_kernel_find::by_id;
 use code_moves::states;
@@ -15,6 +16,7 @@ use spec_kernel::records::Kernel;
 use spec_kernel::records::Object;
 use spec_kernel::records::Thread;
 use spec_kernel::records::Wake;
+use spec_kernel::sizes;
 use spec_moves::parts::Threads;
 
 fn reason_at(c: Condition) -> Wake
@@ -53,7 +55,7 @@ fn due_woken(p: Threads) -> Threads
         let t = at[i];
         i += 1;
         let mut ticks: u32 = 0;
-        if t < 32 {
+        if t < sizes::THREAD_IDS {
             let j = t as usize;
             ticks = before[j].ticks;
         }
@@ -75,12 +77,12 @@ fn aged(r: Thread) -> Thread
 }
 
 // Every thread with ticks left loses one.
-fn aged_records(threads: [Thread; 32]) -> [Thread; 32]
+fn aged_records(threads: [Thread; sizes::THREADS]) -> [Thread; sizes::THREADS]
     ensures { λ x. ⌜ x ≡ map aged threads ⌝ }
 {
     let mut next = threads;
     let mut t: usize = 0;
-    while t < 32 {
+    while t < sizes::THREADS {
         let r = threads[t];
         next[t] = aged(r);
         t += 1;
@@ -124,11 +126,11 @@ fn pulse(w: Waiting, i: u8) -> Waiting
 
 // The periodic semaphores in id order.
 fn pulses(w: Waiting) -> Waiting
-    ensures { λ x. ⌜ Does (pulseFrom 0 16) w x ⌝ }
+    ensures { λ x. ⌜ Does (pulseFrom 0 semaphoreCount) w x ⌝ }
 {
     let mut next = w;
     let mut i: u8 = 0;
-    while i < 16 {
+    while i < sizes::SEMAPHORE_IDS {
         let j = i as usize;
         i += 1;
         if next.semaphores[j].period != 0 {

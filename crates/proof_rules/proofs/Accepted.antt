@@ -1,57 +1,39 @@
 -- A call that is accepted: no refusal applies.
-use Prim.Native.Nat.{ℕ, zero, suc, _≤_}
+use Prim.Native.Nat.{ℕ, _≤_}
 use mathlib.Core.Path.{_≡_, refl, sym}
-use mathlib.Core.Bool.{Bool, true, false, _&&_, _||_, false≢true}
-use mathlib.Core.List.{List, [], _∷_}
+use mathlib.Core.Bool.{Bool, true, false, _||_, false≢true}
 use mathlib.Core.Logic.{_↔_}
-use native.Mathlib.Omega.{arith}
 use lib.Dec.{ltb}
 use lib.ListN.{getD}
-use borrow.Author.Tests.{eqb-false, ltb-true, ltb-false, not-false}
-use borrow.Table.Steps.{cases}
-use Rattle.base_queue.proofs.Lists.{and-both}
+use borrow.Author.Tests.{eqb-false, ltb-false, not-false}
 use Rattle.spec_kernel.specs.declared.records.Kernel.{Kernel}
-use Rattle.spec_kernel.specs.Records.{thread, semaphore}
+use Rattle.spec_kernel.specs.Records.{thread, semaphore, message}
 use Rattle.spec_calls.specs.declared.call.Call.{Call}
-use Rattle.spec_calls.specs.Kinds.{fromThread}
+use Rattle.spec_calls.specs.declared.kinds.Kind.{Kind}
+use Rattle.spec_calls.specs.Kinds.{noKind, kinds, kindOf, names, idNamed, fromThread}
+use Rattle.spec_refusals.specs.Named.{named}
 use Rattle.spec_refusals.specs.Refusals.{unknown, interruptsOff, noCaller, badNumber, badId}
 use Rattle.spec_refusals.specs.Refusals.{isInChannel, notOwner, hasWaiters, notPeriodic, popsNothing}
-use Rattle.spec_refusals.specs.Refusals.{blocksInRegion, noneFree, isOneOf, outside, refusals, firstThatApplies, numberOf}
-
-abbrev refuses : List (ℕ × Bool) → Bool
-refuses [] = true
-refuses (t ∷ l) = let r = refuses l in ltb 0 (t .0) && r
-
--- where no number is 0, the answer 0 means that no condition holds
-accepted-at : (l : List (ℕ × Bool)) → refuses l ≡ true → firstThatApplies l ≡ 0 → (i : ℕ) → getD l i (0, false) .1 ≡ false
-accepted-at [] p h i = refl
-accepted-at (t ∷ l) p h i =
-    let b = and-both (ltb 0 (t .0)) (refuses l) p in
-    cases (t .1) (λ e. let z : t .0 ≡ 0 = rw e at h in absurd (omega (arith, ltb-true 0 (t .0) (b .0))))
-    (λ e. go (accepted-at l (b .1) (rw e at h)) i e)
-  where
-    go : ((j : ℕ) → getD l j (0, false) .1 ≡ false) → (i : ℕ) → t .1 ≡ false → getD (t ∷ l) i (0, false) .1 ≡ false
-    go f zero e = e
-    go f (suc j) e = f j
+use Rattle.spec_refusals.specs.Refusals.{blocksInRegion, noneFree, outside, numberOf}
+use Rattle.spec_refusals.proofs.TableOrder.{accepted-exactly}
 
 pub record Accepted (k : Kernel) (c : Call) : Type 0 where
   pub known : unknown c ≡ false
-  pub interrupts : interruptsOff k c ≡ false
-  pub caller : noCaller k c ≡ false
+  pub interrupts : interruptsOff (k .critical) c ≡ false
+  pub caller : noCaller (k .runner) c ≡ false
   pub numbers : badNumber c ≡ false
-  pub ids : badId k c ≡ false
-  pub held : isInChannel k c ≡ false
-  pub owner : notOwner k c ≡ false
-  pub waiters : hasWaiters k c ≡ false
-  pub periodic : notPeriodic k c ≡ false
-  pub level : popsNothing k c ≡ false
-  pub region : blocksInRegion k c ≡ false
-  pub free : noneFree k c ≡ false
+  pub ids : badId (named k c) c ≡ false
+  pub held : isInChannel (named k c) c ≡ false
+  pub owner : notOwner (k .runner) (named k c) c ≡ false
+  pub waiters : hasWaiters (named k c) c ≡ false
+  pub periodic : notPeriodic (named k c) c ≡ false
+  pub level : popsNothing (k .unscheduled) (k .critical) c ≡ false
+  pub region : blocksInRegion (k .unscheduled) (k .critical) (k .runner) (named k c) c ≡ false
+  pub free : noneFree (k .unscheduled) (k .critical) (named k c) c ≡ false
 
 pub accepted : (k : Kernel) (c : Call) → numberOf k c ≡ 0 → Accepted k c
-unfolding numberOf
 accepted k c h =
-    let at = accepted-at (refusals k c) refl h in
+    let at = accepted-exactly k c .0 h in
     record {
       known = at 0;
       interrupts = at 1;
@@ -83,18 +65,25 @@ pub called : {k : Kernel} {c : Call} → Accepted k c → fromThread c ≡ true 
 unfolding noCaller
 called {k} A e = eqb-false (k .runner) 255 (rw e at (A .caller))
 
--- the kinds that name a thread, and those that name a semaphore: it is live
-abbrev pub namesThread : Call → Bool
-namesThread c = isOneOf c (3 ∷ 4 ∷ 5 ∷ [])
+-- ---- what a call of kind n names is live
+module _ {k : Kernel} {c : Call} (A : Accepted k c) {n : ℕ} (e : c .kind ≡ n) where
+  abbrev kind : Kind
+  kind = getD kinds n noKind
 
-abbrev pub namesSemaphore : Call → Bool
-namesSemaphore c = isOneOf c (15 ∷ 16 ∷ 17 ∷ 18 ∷ 19 ∷ 28 ∷ [])
+  of-kind : kindOf c ≡ kind
+  unfolding kindOf
+  of-kind = rw e
 
-module _ {k : Kernel} {c : Call} (A : Accepted k c) where
-  pub thread-named : namesThread c ≡ true → thread k (c .a) .live ≡ true
-  unfolding badId
-  thread-named e = let (h, _) = simp none-iff at (A .ids) in not-false (thread k (c .a) .live) (rw e at h)
+  pub thread-named : names (kind .thread) ≡ true → thread k (idNamed (kind .thread) c) .live ≡ true
+  unfolding badId named
+  thread-named h =
+      let (l, _) = simp (none-iff, of-kind) at (A .ids) in
+      not-false (thread k (idNamed (kind .thread) c) .live) (rw h at l)
 
-  pub semaphore-named : namesSemaphore c ≡ true → semaphore k (c .a) .live ≡ true
-  unfolding badId
-  semaphore-named e = let (_, (_, (h, _))) = simp none-iff at (A .ids) in not-false (semaphore k (c .a) .live) (rw e at h)
+  pub semaphore-named : names (kind .semaphore) ≡ true → semaphore k (c .a) .live ≡ true
+  unfolding badId named
+  semaphore-named h = let (_, (l, _)) = simp (none-iff, of-kind) at (A .ids) in not-false (semaphore k (c .a) .live) (rw h at l)
+
+  pub message-named : names (kind .message) ≡ true → message k (c .a) .live ≡ true
+  unfolding badId named
+  message-named h = let (_, (_, (_, (_, (l, _))))) = simp (none-iff, of-kind) at (A .ids) in not-false (message k (c .a) .live) (rw h at l)

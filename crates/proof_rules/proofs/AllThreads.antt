@@ -43,8 +43,8 @@ module _ {waited : ℕ → Bool} {k : Kernel} (C : Core waited k) {p : Threads} 
   threads-core = record {
     standing = S;
     filed = C .filed;
-    semaphoreCount = C .semaphoreCount;
-    eventCount = C .eventCount;
+    semaphoresSized = C .semaphoresSized;
+    eventsSized = C .eventsSized;
     threads = λ t. B t .fine;
     semaphores = C .semaphores;
     messages = λ m. record {

@@ -19,6 +19,7 @@ use Rattle.spec_kernel.specs.declared.records.Semaphore.{Semaphore}
 use Rattle.spec_kernel.specs.declared.records.Event.{Event}
 use Rattle.spec_kernel.specs.declared.records.Message.{Message}
 use Rattle.spec_kernel.specs.declared.records.Kernel.{Kernel}
+use Rattle.spec_kernel.specs.Sizes.{threadCount, semaphoreCount, eventCount, messageCount, priorityCount, channelCount}
 use Rattle.spec_kernel.specs.Records.{thread, semaphore, event, message, noThread, noSemaphore, noMessage}
 use Rattle.spec_kernel.specs.Conditions.{awaits}
 use Rattle.spec_kernel.specs.Truth.{isTrue}
@@ -39,12 +40,12 @@ abbrev pub Fits : List Semaphore → (ℕ → Bool) → ℕ → Condition → Ty
 Fits semaphores waited ticks Ready = ticks ≡ 0
 Fits semaphores waited ticks Asleep = 0 < ticks
 Fits semaphores waited ticks (ForSemaphore i) = Waitable (getD semaphores i noSemaphore)
-Fits semaphores waited ticks (ForEvent i) = (i < 8) × (waited i ≡ true)
+Fits semaphores waited ticks (ForEvent i) = (i < eventCount) × (waited i ≡ true)
 Fits semaphores waited ticks (ForMessage mask) = (0 < mask) × (mask ≤ 32767)
 
 pub record LivingThread (semaphores : List Semaphore) (waited : ℕ → Bool) (r : Thread) : Type 0 where
-  pub priority : (1 ≤ r .priority) × (r .priority ≤ 30) × (1 ≤ r .first) × (r .first ≤ 30)
-  pub reply : (r .reply < 64) ⊎ (r .reply ≡ 255)
+  pub priority : (1 ≤ r .priority) × (r .priority ≤ priorityCount) × (1 ≤ r .first) × (r .first ≤ priorityCount)
+  pub reply : (r .reply < messageCount) ⊎ (r .reply ≡ 255)
   pub condition : Fits semaphores waited (r .ticks) (r .condition)
 
 abbrev pub FineThread : List Semaphore → (ℕ → Bool) → Thread → Type 0
@@ -52,8 +53,8 @@ FineThread semaphores waited r = Kept (λ (s : Thread). s .live) noThread (Livin
 
 pub record LivingMessage (threads : List Thread) (r : Message) : Type 0 where
   pub owner : getD threads (r .owner) noThread .live ≡ true
-  pub sender : r .sender < 32
-  pub channel : r .channel ≤ 15
+  pub sender : r .sender < threadCount
+  pub channel : r .channel ≤ channelCount
   pub unawaited : awaits (getD threads (r .owner) noThread .condition) (r .channel) ≡ false
 
 abbrev pub FineMessage : List Thread → Message → Type 0
@@ -63,8 +64,8 @@ FineMessage threads r = Kept (λ (s : Message). s .live) noMessage (LivingMessag
 pub record Core (waited : ℕ → Bool) (k : Kernel) : Type 0 where
   pub standing : Standing (threadsOf k)
   pub filed : Filed (postsOf k)
-  pub semaphoreCount : length (k .semaphores) ≡ 16
-  pub eventCount : length (k .events) ≡ 8
+  pub semaphoresSized : length (k .semaphores) ≡ semaphoreCount
+  pub eventsSized : length (k .events) ≡ eventCount
   pub threads : (t : ℕ) → FineThread (k .semaphores) waited (thread k t)
   pub semaphores : (i : ℕ) → KeptSemaphore (semaphore k i)
   pub messages : (m : ℕ) → FineMessage (k .threads) (message k m)
@@ -76,7 +77,7 @@ untrue k i = not (isTrue (k .bits) (event k i))
 -- a thread stays fine where what it waits for may be waited for in other semaphores and events
 fine-still : {S S′ : List Semaphore} {w w′ : ℕ → Bool} {r : Thread}
     → ((i : ℕ) → r .condition ≡ ForSemaphore i → Waitable (getD S i noSemaphore) → Waitable (getD S′ i noSemaphore))
-    → ((i : ℕ) → r .condition ≡ ForEvent i → i < 8 → w i ≡ true → w′ i ≡ true) → FineThread S w r → FineThread S′ w′ r
+    → ((i : ℕ) → r .condition ≡ ForEvent i → i < eventCount → w i ≡ true → w′ i ≡ true) → FineThread S w r → FineThread S′ w′ r
 fine-still {S} {S′} {w} {w′} {r} s e F = record {
   living = λ l. let L = F .living l in
       record { priority = L .priority; reply = L .reply; condition = go (r .condition) s e (L .condition) };
@@ -84,7 +85,7 @@ fine-still {S} {S′} {w} {w′} {r} s e F = record {
 }
   where
     go : (c : Condition) → ((i : ℕ) → c ≡ ForSemaphore i → Waitable (getD S i noSemaphore) → Waitable (getD S′ i noSemaphore))
-        → ((i : ℕ) → c ≡ ForEvent i → i < 8 → w i ≡ true → w′ i ≡ true) → Fits S w (r .ticks) c → Fits S′ w′ (r .ticks) c
+        → ((i : ℕ) → c ≡ ForEvent i → i < eventCount → w i ≡ true → w′ i ≡ true) → Fits S w (r .ticks) c → Fits S′ w′ (r .ticks) c
     go Ready s e h = h
     go Asleep s e h = h
     go (ForSemaphore i) s e h = s i refl h
@@ -99,14 +100,14 @@ live-inside live d out l n e i h =
 
 module _ {waited : ℕ → Bool} {k : Kernel} (C : Core waited k) where
   -- ---- what is known of the records
-  pub live-thread : (t : ℕ) → thread k t .live ≡ true → t < 32
-  live-thread = live-inside (λ r. r .live) noThread refl (k .threads) 32 (C .standing .count)
+  pub live-thread : (t : ℕ) → thread k t .live ≡ true → t < threadCount
+  live-thread = live-inside (λ r. r .live) noThread refl (k .threads) threadCount (C .standing .count)
 
-  pub live-semaphore : (i : ℕ) → semaphore k i .live ≡ true → i < 16
-  live-semaphore = live-inside (λ r. r .live) noSemaphore refl (k .semaphores) 16 (C .semaphoreCount)
+  pub live-semaphore : (i : ℕ) → semaphore k i .live ≡ true → i < semaphoreCount
+  live-semaphore = live-inside (λ r. r .live) noSemaphore refl (k .semaphores) semaphoreCount (C .semaphoresSized)
 
-  pub live-message : (m : ℕ) → message k m .live ≡ true → m < 64
-  live-message = live-inside (λ r. r .live) noMessage refl (k .messages) 64 (C .filed .count)
+  pub live-message : (m : ℕ) → message k m .live ≡ true → m < messageCount
+  live-message = live-inside (λ r. r .live) noMessage refl (k .messages) messageCount (C .filed .count)
 
   -- of a thread that isn't live too
   pub condition-of : (t : ℕ) → Fits (k .semaphores) waited (thread k t .ticks) (thread k t .condition)
@@ -117,7 +118,7 @@ module _ {waited : ℕ → Bool} {k : Kernel} (C : Core waited k) where
   live-waiter t h = cases (thread k t .live) (λ e. e) (λ e. absurd (h (rw (C .threads t .gone e))))
 
   -- ---- a thread gets a record
-  module _ (t : ℕ) (b : t < 32) (r : Thread) where
+  module _ (t : ℕ) (b : t < threadCount) (r : Thread) where
     -- what holds of it, and of the others, holds of each
     pub each-thread : (P : Thread → Type 0) (u : ℕ) → (u ≡ t → P r) → ((u ≡ t → ⊥) → P (thread k u)) → P (thread (moveThread t r k) u)
     each-thread P u f g =
@@ -131,8 +132,8 @@ module _ {waited : ℕ → Bool} {k : Kernel} (C : Core waited k) where
       place-core owned = record {
         standing = relocate-standing (threadsOf k) t r (C .standing);
         filed = C .filed;
-        semaphoreCount = C .semaphoreCount;
-        eventCount = C .eventCount;
+        semaphoresSized = C .semaphoresSized;
+        eventsSized = C .eventsSized;
         threads = λ u. each-thread (FineThread (k .semaphores) waited) u (λ _. F) (λ _. C .threads u);
         semaphores = C .semaphores;
         messages = λ m. record {
@@ -157,12 +158,12 @@ module _ {waited : ℕ → Bool} {k : Kernel} (C : Core waited k) where
       place-alike l c = place-core (λ m e z. let L = C .messages m .living e in (l ∙ (rw z at (L .owner)), rw (c, ← z) (L .unawaited)))
 
   -- ---- a message gets a record
-  pub file-core : (m : ℕ) → m < 64 → (r : Message) → FineMessage (k .threads) r → Core waited (moveMessage m r k)
+  pub file-core : (m : ℕ) → m < messageCount → (r : Message) → FineMessage (k .threads) r → Core waited (moveMessage m r k)
   file-core m b r F = record {
     standing = C .standing;
     filed = repost-filed (postsOf k) m r (C .filed);
-    semaphoreCount = C .semaphoreCount;
-    eventCount = C .eventCount;
+    semaphoresSized = C .semaphoresSized;
+    eventsSized = C .eventsSized;
     threads = C .threads;
     semaphores = C .semaphores;
     messages = λ u.
@@ -175,11 +176,11 @@ module _ {waited : ℕ → Bool} {k : Kernel} (C : Core waited k) where
     pub each-semaphore : (P : Semaphore → Type 0) (j : ℕ) → (j ≡ i → P s) → P (semaphore k j) → P (semaphore (withSemaphore i s k) j)
     each-semaphore P j f h =
         cases (eqb j i)
-        (λ e. cases (ltb i 16)
+        (λ e. cases (ltb i semaphoreCount)
         (λ b. let z = eqb-true j i e in
-        let c : i < length (k .semaphores) = omega (arith, C .semaphoreCount, ltb-true i 16 b) in
+        let c : i < length (k .semaphores) = omega (arith, C .semaphoresSized, ltb-true i semaphoreCount b) in
         rw (z, getD-set-same (k .semaphores) i s noSemaphore c) (f z))
-        (λ b. let c : length (k .semaphores) ≤ i = omega (arith, C .semaphoreCount, ltb-false i 16 b) in
+        (λ b. let c : length (k .semaphores) ≤ i = omega (arith, C .semaphoresSized, ltb-false i semaphoreCount b) in
         rw (set-out (k .semaphores) i s c) h))
         (λ e. rw (getD-set-other (k .semaphores) i j s noSemaphore (eqb-false j i e)) h)
 
@@ -189,20 +190,20 @@ module _ {waited : ℕ → Bool} {k : Kernel} (C : Core waited k) where
     semaphore-core F waiters = record {
       standing = C .standing;
       filed = C .filed;
-      semaphoreCount = length-set (k .semaphores) i s ∙ C .semaphoreCount;
-      eventCount = C .eventCount;
+      semaphoresSized = length-set (k .semaphores) i s ∙ C .semaphoresSized;
+      eventsSized = C .eventsSized;
       threads = λ t. fine-still (λ j z. each-semaphore Waitable j (λ y. waiters t (z ∙ ap ForSemaphore y))) (λ _ _ _ w. w) (C .threads t);
       semaphores = λ j. each-semaphore KeptSemaphore j (λ _. F) (C .semaphores j);
       messages = C .messages;
     }
 
   -- ---- events and bits; uptime, levels and runner
-  pub events-core : (l : List Event) (bits : ℕ) → length l ≡ 8 → Core waited (withEvents l bits k)
+  pub events-core : (l : List Event) (bits : ℕ) → length l ≡ eventCount → Core waited (withEvents l bits k)
   events-core l bits e = record {
     standing = C .standing;
     filed = C .filed;
-    semaphoreCount = C .semaphoreCount;
-    eventCount = e;
+    semaphoresSized = C .semaphoresSized;
+    eventsSized = e;
     threads = C .threads;
     semaphores = C .semaphores;
     messages = C .messages;
@@ -212,8 +213,8 @@ module _ {waited : ℕ → Bool} {k : Kernel} (C : Core waited k) where
   scheduler-core uptime unscheduled critical runner = record {
     standing = C .standing;
     filed = C .filed;
-    semaphoreCount = C .semaphoreCount;
-    eventCount = C .eventCount;
+    semaphoresSized = C .semaphoresSized;
+    eventsSized = C .eventsSized;
     threads = C .threads;
     semaphores = C .semaphores;
     messages = C .messages;
@@ -221,12 +222,12 @@ module _ {waited : ℕ → Bool} {k : Kernel} (C : Core waited k) where
 
   -- other events are waited for
   pub core-weaken : {waited′ : ℕ → Bool}
-      → ((t i : ℕ) → thread k t .condition ≡ ForEvent i → i < 8 → waited i ≡ true → waited′ i ≡ true) → Core waited′ k
+      → ((t i : ℕ) → thread k t .condition ≡ ForEvent i → i < eventCount → waited i ≡ true → waited′ i ≡ true) → Core waited′ k
   core-weaken h = record {
     standing = C .standing;
     filed = C .filed;
-    semaphoreCount = C .semaphoreCount;
-    eventCount = C .eventCount;
+    semaphoresSized = C .semaphoresSized;
+    eventsSized = C .eventsSized;
     threads = λ t. fine-still (λ _ _ f. f) (h t) (C .threads t);
     semaphores = C .semaphores;
     messages = C .messages;

@@ -11,9 +11,9 @@ use borrow.Author.Tests.{ltb-true, leb-true, not-false}
 use Rattle.base_queue.proofs.Lists.{and-both}
 use Rattle.spec_kernel.specs.declared.records.Kernel.{Kernel}
 use Rattle.spec_calls.specs.declared.call.Call.{Call}
-use Rattle.spec_calls.specs.Kinds.{isKnown, unusedAreZero}
+use Rattle.spec_calls.specs.Kinds.{lastKind, isKnown, unusedAreZero}
 use Rattle.spec_refusals.specs.Refusals.{unknown}
-use Rattle.spec_effects.specs.Effects.{Kind, noKind, effectsOfKinds, effect}
+use Rattle.spec_effects.specs.Effects.{Does, nothing, effectsOfKinds, effect}
 use Rattle.proof_rules.proofs.Ends.{Good, Before}
 use Rattle.proof_rules.proofs.Accepted.{Accepted}
 use Rattle.proof_rules.proofs.Threads.{kind-2, kind-4, kind-5, kind-6, kind-7}
@@ -26,23 +26,23 @@ use Rattle.proof_rules.proofs.Semaphores.{kind-14, kind-15, kind-16, ki
 
 -- ---- a fact of each kind, in the table's order
 infixr 5 _▸_
-pub data Facts (P : ℕ → Kind → Type 0) : ℕ → List Kind → Type 0 where
+pub data Facts (P : ℕ → Does → Type 0) : ℕ → List Does → Type 0 where
   end : {n : ℕ} → Facts P n []
-  _▸_ : {n : ℕ} {x : Kind} {l : List Kind} → P n x → Facts P (suc n) l → Facts P n (x ∷ l)
+  _▸_ : {n : ℕ} {x : Does} {l : List Does} → P n x → Facts P (suc n) l → Facts P n (x ∷ l)
 
-fact-at : {P : ℕ → Kind → Type 0} {n : ℕ} {l : List Kind} → Facts P n l → (i : ℕ) → i < length l → P (n + i) (getD l i noKind)
+fact-at : {P : ℕ → Does → Type 0} {n : ℕ} {l : List Does} → Facts P n l → (i : ℕ) → i < length l → P (n + i) (getD l i nothing)
 fact-at end i b = absurd (omega arith)
 fact-at {P} {n} (p ▸ f) zero b = rw (add-zero n) p
 fact-at {P} {n} (p ▸ f) (suc i) b = rw (add-suc n i, ← suc-add n i) (fact-at f i (omega arith))
 
 -- what holds of what each kind does holds of the effect; 0 is no kind
 pub effect-of : {k : Kernel} {c : Call} → Accepted k c → (P : Kernel → Type 0)
-    → ((c .kind ≡ 0 → P k) → Facts (λ n x. c .kind ≡ n → P (x .does k c)) 0 effectsOfKinds) → P (effect k c)
+    → ((c .kind ≡ 0 → P k) → Facts (λ n x. c .kind ≡ n → P (x k c)) 0 effectsOfKinds) → P (effect k c)
 unfolding effect unknown isKnown
 effect-of {k} {c} A P facts =
     let b = and-both (isKnown c) (unusedAreZero c) (not-false (isKnown c && unusedAreZero c) (A .known)) .0 in
-    let (low, high) = and-both (ltb 0 (c .kind)) (leb (c .kind) 30) b in
-    fact-at (facts (λ e. absurd (omega (arith, ltb-true 0 (c .kind) low)))) (c .kind) (omega (arith, leb-true (c .kind) 30 high))
+    let (low, high) = and-both (ltb 0 (c .kind)) (leb (c .kind) lastKind) b in
+    fact-at (facts (λ e. absurd (omega (arith, ltb-true 0 (c .kind) low)))) (c .kind) (omega (arith, leb-true (c .kind) lastKind high))
     (omega arith)
 
 module _ {k : Kernel} {c : Call} (B : Before k) (A : Accepted k c) where

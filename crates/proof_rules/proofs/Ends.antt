@@ -10,13 +10,14 @@ use borrow.Author.Tests.{eqb-true, eqb-false, ne-eqb, ltb-true, not-true}
 use borrow.Table.Steps.{cases}
 use Rattle.base_queue.specs.declared.Queue.{Queue}
 use Rattle.base_queue.specs.Lists.{firstOf}
-use Rattle.base_queue.specs.Queues.{items, Tidy}
+use Rattle.base_queue.specs.Queues.{capacity, items, Tidy}
 use Rattle.base_queue.specs.Tables.{Placed}
 use Rattle.base_queue.proofs.Tables.{placed-short}
 use Rattle.spec_kernel.specs.declared.records.Condition.{Condition}
 use Rattle.spec_kernel.specs.declared.records.Condition.the-variants.{Ready, Asleep, ForSemaphore, ForEvent, ForMessage}
 use Rattle.spec_kernel.specs.declared.records.Thread.{Thread}
 use Rattle.spec_kernel.specs.declared.records.Kernel.{Kernel}
+use Rattle.spec_kernel.specs.Sizes.{threadCount, semaphoreCount, eventCount, messageCount}
 use Rattle.spec_kernel.specs.Records.{thread, noThread, noMessage}
 use Rattle.spec_kernel.specs.Conditions.{isReady, readyFor}
 use Rattle.spec_kernel.specs.Places.{homeOf, homeFor, hasHome, isQueued, nowhere}
@@ -60,11 +61,11 @@ module _ (k : Kernel) where
   }
 
 -- ---- the sizes
-tidy-full : (q : Queue) → Tidy q → length (items q) ≤ 64 → length (q .at) ≡ 64
+tidy-full : (q : Queue) → Tidy q → length (items q) ≤ capacity → length (q .at) ≡ capacity
 tidy-full q t h = ap (λ (p : Queue). length (p .at)) (sym t) ∙ simp (length-append, length-replicate) (omega arith)
 
-table-full : {A : Type 0} (belongs : A → Bool) (d : A) → belongs d ≡ false → (l : List A) (n : ℕ) → length l ≡ n → n ≤ 64
-    → (q : Queue) → Tidy q → Placed (λ i. belongs (getD l i d)) (items q) → length (q .at) ≡ 64
+table-full : {A : Type 0} (belongs : A → Bool) (d : A) → belongs d ≡ false → (l : List A) (n : ℕ) → length l ≡ n → n ≤ capacity
+    → (q : Queue) → Tidy q → Placed (λ i. belongs (getD l i d)) (items q) → length (q .at) ≡ capacity
 table-full belongs d out l n e b q t P =
     let s = placed-short (λ i. belongs (getD l i d)) (items q) n (λ i h. rw (past-end l d e h) out) P in
     tidy-full q t (omega arith)
@@ -75,12 +76,14 @@ sized {k} C =
     let S = C .standing in let F = C .filed in
     record {
       threads = S .count;
-      semaphores = C .semaphoreCount;
-      events = C .eventCount;
+      semaphores = C .semaphoresSized;
+      events = C .eventsSized;
       messages = F .count;
-      places = table-full hasHome noThread refl (k .threads) 32 (S .count) (omega arith) (k .places) (S .tidyPlaces) (S .placed);
-      time = table-full (λ r. ltb 0 (r .ticks)) noThread refl (k .threads) 32 (S .count) (omega arith) (k .time) (S .tidyTime) (S .timed);
-      posted = table-full isQueued noMessage refl (k .messages) 64 (F .count) (omega arith) (k .posted) (F .tidy) (F .placed);
+      places = table-full hasHome noThread refl (k .threads) threadCount (S .count) (omega arith) (k .places) (S .tidyPlaces) (S .placed);
+      time =
+          table-full (λ r. ltb 0 (r .ticks)) noThread refl (k .threads) threadCount (S .count) (omega arith) (k .time)
+          (S .tidyTime) (S .timed);
+      posted = table-full isQueued noMessage refl (k .messages) messageCount (F .count) (omega arith) (k .posted) (F .tidy) (F .placed);
       priorities = λ t. live-or-not (λ r. r .priority < 256) (C .threads t) (λ L. omega (arith, L .priority)) (omega arith);
       channels = λ m. live-or-not (λ r. r .channel < 256) (C .messages m) (λ L. omega (arith, L .channel)) (omega arith);
     }
@@ -132,8 +135,8 @@ before k Z R =
       core = record {
         standing = W .standing;
         filed = W .filed;
-        semaphoreCount = Z .semaphores;
-        eventCount = Z .events;
+        semaphoresSized = Z .semaphores;
+        eventsSized = Z .events;
         threads = λ t. thread-fine k (thread k t) (W .threads t);
         semaphores = W .semaphores;
         messages = λ m. record {

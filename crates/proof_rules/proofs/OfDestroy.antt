@@ -72,8 +72,8 @@ module _ (t : ℕ) (k : Kernel) where
   freed-core C = record {
     standing = C .standing;
     filed = freed-filed (C .filed);
-    semaphoreCount = C .semaphoreCount;
-    eventCount = C .eventCount;
+    semaphoresSized = C .semaphoresSized;
+    eventsSized = C .eventsSized;
     threads = C .threads;
     semaphores = C .semaphores;
     messages = λ m. each-freed (FineMessage (k .threads)) m none-fine (λ _. C .messages m);
@@ -88,8 +88,8 @@ module _ (t : ℕ) (k : Kernel) where
 pub kind-3 : {k : Kernel} → Before k → {c : Call} → Accepted k c → c .kind ≡ 3 → Good (destroyThread k c)
 unfolding destroyThread freeMessages blocksInRegion stopsCaller
 kind-3 {k} B {c} A e =
-    let l = thread-named A (rw e) in
-    let region : (inRegion k && eqb (c .a) (k .runner)) ≡ false = simp (e, or-false) at (A .region) in
+    let l = thread-named A e refl in
+    let region : (inRegion (k .unscheduled) (k .critical) && eqb (c .a) (k .runner)) ≡ false = simp (e, or-false) at (A .region) in
     let C = freed-core (c .a) k (B .core) in
     let b = live-thread (B .core) (c .a) l in
     record {

@@ -3,9 +3,9 @@ use Prim.Native.Nat.{ℕ}
 use mathlib.Core.Path.{_≡_, refl, ap}
 use mathlib.Core.Bool.{Bool, false, not, _&&_, and-true, or-false}
 use native.Mathlib.Omega.{arith}
-use lib.Dec.{ltb}
+use lib.Dec.{leb}
 use lib.ListN.{length-set}
-use borrow.Author.Tests.{ltb-false}
+use borrow.Author.Tests.{leb-false}
 use borrow.Table.Steps.{cases}
 use Rattle.base_bits.specs.Words.{withBit, withoutBit}
 use Rattle.spec_kernel.specs.declared.records.Condition.the-variants.{ForEvent}
@@ -13,12 +13,14 @@ use Rattle.spec_kernel.specs.declared.records.Wake.{Wake}
 use Rattle.spec_kernel.specs.declared.records.Thread.{Thread}
 use Rattle.spec_kernel.specs.declared.records.Kernel.{Kernel}
 use Rattle.spec_moves.specs.declared.parts.Threads.{Threads}
+use Rattle.spec_kernel.specs.Sizes.{eventCount}
 use Rattle.spec_kernel.specs.Records.{thread, event}
 use Rattle.spec_kernel.specs.Truth.{isTrue}
 use Rattle.spec_moves.specs.Moves.{threadIn}
 use Rattle.spec_moves.specs.Standing.{threadsOf, Standing}
 use Rattle.spec_calls.specs.declared.call.Call.{Call}
-use Rattle.spec_calls.specs.Kinds.{fromThread, rowOf}
+use Rattle.spec_calls.specs.Kinds.{fromThread, kindOf}
+use Rattle.spec_refusals.specs.Named.{named}
 use Rattle.spec_refusals.specs.Refusals.{inRegion, badId, blocksInRegion, stopsCaller}
 use Rattle.spec_moves.specs.States.{withBits}
 use Rattle.spec_events.specs.Events.{workOutFrom, workedOut, loadEvent, pendEvent, setBit, clearBit}
@@ -32,15 +34,16 @@ use Rattle.proof_rules.proofs.AllThreads.{Becomes, stays, becomes-awake
 -- ---- events are worked out
 module _ {w : ℕ → Bool} {k : Kernel} (C : Core w k) where
   abbrev after : Threads
-  after = workOutFrom (k .events) (k .bits) 0 8 (threadsOf k)
+  after = workOutFrom (k .events) (k .bits) 0 eventCount (threadsOf k)
 
   worked-standing : Standing after
-  worked-standing = outs-standing (k .events) (k .bits) 0 8 (C .standing)
+  worked-standing = outs-standing (k .events) (k .bits) 0 eventCount (C .standing)
 
   -- those that wake are live
   worked-becomes : (t : ℕ) → Becomes (k .semaphores) w (thread k t) (threadIn after t)
   worked-becomes t =
-      outs-last (k .events) (k .bits) (Becomes (k .semaphores) w (thread k t)) (λ r l B. becomes-awake B l Wake.Met) 0 8 (omega arith)
+      outs-last (k .events) (k .bits) (Becomes (k .semaphores) w (thread k t)) (λ r l B. becomes-awake B l Wake.Met)
+      0 eventCount (omega arith)
       (C .standing) t (stays (C .threads t))
 
   -- then nobody waits for an event that is TRUE
@@ -48,7 +51,7 @@ module _ {w : ℕ → Bool} {k : Kernel} (C : Core w k) where
   unfolding workedOut
   worked-core = core-weaken (threads-core C worked-standing worked-becomes) λ t i e b _.
       cases (isTrue (k .bits) (event k i))
-      (λ h. absurd (outs-unwaited (k .events) (k .bits) 0 8 (omega arith) (C .standing)
+      (λ h. absurd (outs-unwaited (k .events) (k .bits) 0 eventCount (omega arith) (C .standing)
       (λ u l. ap (λ (r : Thread). r .condition) (C .threads u .gone l)) i (omega arith) (omega arith) h t e))
       (λ h. rw h)
 
@@ -59,10 +62,10 @@ module _ {w : ℕ → Bool} {k : Kernel} (C : Core w k) where
 module _ {k : Kernel} (B : Before k) {c : Call} (A : Accepted k c) where
   pub kind-20 : c .kind ≡ 20 → Good (loadEvent k c)
   unfolding loadEvent
-  kind-20 _ = worked-good (events-core (B .core) _ (k .bits) (rw length-set (B .core .eventCount))) (B .runs)
+  kind-20 _ = worked-good (events-core (B .core) _ (k .bits) (rw length-set (B .core .eventsSized))) (B .runs)
 
   bits-good : (bits : ℕ) → Good (workedOut (withBits bits k))
-  bits-good bits = worked-good (events-core (B .core) (k .events) bits (B .core .eventCount)) (B .runs)
+  bits-good bits = worked-good (events-core (B .core) (k .events) bits (B .core .eventsSized)) (B .runs)
 
   set-good : Good (setBit k c)
   unfolding setBit
@@ -86,11 +89,12 @@ module _ {k : Kernel} (B : Before k) {c : Call} (A : Accepted k c) where
 
   -- who blocks waits for an event that is not TRUE, and in no region
   pub kind-21 : c .kind ≡ 21 → Good (pendEvent k c)
-  unfolding pendEvent badId blocksInRegion stopsCaller fromThread rowOf
+  unfolding pendEvent badId blocksInRegion stopsCaller named fromThread kindOf
   kind-21 e =
-      let a : ltb 7 (c .a) ≡ false = simp (e, or-false) at (A .ids) in
-      let region : (inRegion k && not (isTrue (k .bits) (event k (c .a)))) ≡ false = simp (e, or-false) at (A .region) in
+      let a : leb eventCount (c .a) ≡ false = simp (e, or-false) at (A .ids) in
+      let region : (inRegion (k .unscheduled) (k .critical) && not (isTrue (k .bits) (event k (c .a)))) ≡ false =
+      simp (e, or-false) at (A .region) in
       cases (isTrue (k .bits) (event k (c .a))) (λ h. rw h (record { core = B .core; runs = B .runs }))
       (λ h. rw h
-      (block-good B (caller-ready B A (rw e)) (ForEvent (c .a)) (c .c) (omega (arith, ltb-false 7 (c .a) a), rw h)
+      (block-good B (caller-ready B A (rw e)) (ForEvent (c .a)) (c .c) (omega (arith, leb-false eventCount (c .a) a), rw h)
       (simp (h, and-true) at region) (λ _ _ _. refl)))

@@ -1,14 +1,14 @@
 -- Messages: what create, destroy, post and pend keep.
 use Prim.Native.Nat.{ℕ, _≤_, _<_}
 use mathlib.Core.Path.{_≡_, refl, sym, ap, _∙_}
-use mathlib.Core.Bool.{Bool, true, false, not, _&&_, and-true, and-eq-true-iff, or-false, false≢true}
+use mathlib.Core.Bool.{Bool, true, false, _&&_, and-true, and-eq-true-iff, or-false, false≢true}
 use mathlib.Core.List.{List, [], _∷_}
 use mathlib.Core.Logic.{inl}
 use native.Mathlib.Nat.{mod-eq-of-lt}
 use native.Mathlib.Omega.{arith}
 use lib.Dec.{eqb, ltb}
 use lib.ListN.{getD}
-use borrow.Author.Tests.{eqb-true, eq-eqb, ltb-true, ltb-false, not-false}
+use borrow.Author.Tests.{eqb-true, eq-eqb, ltb-true, ltb-false}
 use borrow.Table.Steps.{cases}
 use Rattle.base_queue.specs.Lists.{count, keep, firstOf}
 use Rattle.base_queue.specs.Queues.{items}
@@ -19,6 +19,7 @@ use Rattle.spec_kernel.specs.declared.records.Wake.{Wake}
 use Rattle.spec_kernel.specs.declared.records.Thread.{Thread}
 use Rattle.spec_kernel.specs.declared.records.Message.{Message}
 use Rattle.spec_kernel.specs.declared.records.Kernel.{Kernel}
+use Rattle.spec_kernel.specs.Sizes.{threadCount, messageCount, channelCount}
 use Rattle.spec_kernel.specs.Records.{thread, message, noThread, noMessage}
 use Rattle.spec_kernel.specs.Conditions.{masks, awaits}
 use Rattle.spec_moves.specs.Standing.{postsOf}
@@ -26,14 +27,15 @@ use Rattle.spec_moves.proofs.Posts.{repost-past}
 use Rattle.spec_kernel.specs.Free.{freeMessage}
 use Rattle.spec_kernel.specs.Channels.{isFor, firstFor, nextMessage}
 use Rattle.spec_calls.specs.declared.call.Call.{Call}
-use Rattle.spec_calls.specs.Kinds.{fromThread, rowOf}
-use Rattle.spec_refusals.specs.Refusals.{inRegion, badNumber, badId, blocksInRegion, stopsCaller}
+use Rattle.spec_calls.specs.Kinds.{fromThread, kindOf}
+use Rattle.spec_refusals.specs.Named.{named, valueOf}
+use Rattle.spec_refusals.specs.Refusals.{inRegion, badNumber, blocksInRegion, stopsCaller}
 use Rattle.spec_moves.specs.States.{moveMessage, asByte}
 use Rattle.spec_threads.specs.Threads.{awake}
 use Rattle.spec_messages.specs.Messages.{passed, createMessage, destroyMessage, handOver, postMessage, receive, pendMessage}
 use Rattle.proof_rules.proofs.Core.{FineMessage, Core, untrue, live-thread, live-message, file-core, place-calm}
 use Rattle.proof_rules.proofs.Ends.{Good, Before}
-use Rattle.proof_rules.proofs.Accepted.{Accepted, neither, inside}
+use Rattle.proof_rules.proofs.Accepted.{Accepted, inside, thread-named, message-named}
 use Rattle.proof_rules.proofs.Steps.{ready-live, awake-fine, place-runs, caller-ready, block-good}
 
 -- nobody awaits a message that is held
@@ -49,9 +51,10 @@ pub none-fine : {T : List Thread} → FineMessage T noMessage
 none-fine = record { living = λ e. absurd (false≢true e); gone = λ _. refl }
 
 -- a live message whose owner is live
-module _ {T : List Thread} {r : Message} (l : r .live ≡ true) (o : getD T (r .owner) noThread .live ≡ true) (s : r .sender < 32) where
+module _ {T : List Thread} {r : Message} (l : r .live ≡ true) (o : getD T (r .owner) noThread .live ≡ true)
+    (s : r .sender < threadCount) where
   -- on a channel that the owner doesn't await
-  queued-fine : r .channel ≤ 15 → awaits (getD T (r .owner) noThread .condition) (r .channel) ≡ false → FineMessage T r
+  queued-fine : r .channel ≤ channelCount → awaits (getD T (r .owner) noThread .condition) (r .channel) ≡ false → FineMessage T r
   queued-fine b u = record {
     living = λ _. record { owner = o; sender = s; channel = b; unawaited = u };
     gone = λ e. absurd (false≢true (sym e ∙ l));
@@ -72,7 +75,8 @@ received-fine F = record {
 file-any : {waited : ℕ → Bool} {k : Kernel} → Core waited k → (m : ℕ) {r : Message} → FineMessage (k .threads) r
     → Core waited (moveMessage m r k)
 file-any {waited} {k} C m {r} F =
-    cases (ltb m 64) (λ e. file-core C m (ltb-true m 64 e) r F) (λ e. rw (repost-past (postsOf k) m r (ltb-false m 64 e)) C)
+    cases (ltb m messageCount) (λ e. file-core C m (ltb-true m messageCount e) r F)
+    (λ e. rw (repost-past (postsOf k) m r (ltb-false m messageCount e)) C)
 
 -- ---- where a pend finds no message, its caller owns none on a masked channel
 module _ {waited : ℕ → Bool} {k : Kernel} (C : Core waited k) (mask : ℕ) where
@@ -101,7 +105,7 @@ module _ {waited : ℕ → Bool} {k : Kernel} (C : Core waited k) (mask : ℕ) w
 -- ---- the kinds
 module _ {k : Kernel} (B : Before k) {c : Call} (A : Accepted k c) where
   pub kind-24 : c .kind ≡ 24 → Good (createMessage k c)
-  unfolding createMessage fromThread rowOf
+  unfolding createMessage fromThread kindOf
   kind-24 e =
       let l = ready-live (thread k (k .runner)) (caller-ready B A (rw e)) in
       record { core = file-any (B .core) (freeMessage k) (held-fine refl l (live-thread (B .core) (k .runner) l) refl); runs = B .runs }
@@ -112,14 +116,13 @@ module _ {k : Kernel} (B : Before k) {c : Call} (A : Accepted k c) where
 
   -- the recipient that awaits the channel wakes, and holds the message
   pub kind-26 : c .kind ≡ 26 → Good (postMessage k c)
-  unfolding postMessage handOver badNumber badId fromThread rowOf
+  unfolding postMessage handOver badNumber fromThread kindOf
   kind-26 e =
       let C = B .core in
       let s = live-thread C (k .runner) (ready-live (thread k (k .runner)) (caller-ready B A (rw e))) in
-      let (_, high) = inside 1 15 (c .c) (simp (e, or-false) at (A .numbers)) in
-      let (dead, gone) = neither (not (thread k (c .b) .live)) (not (message k (c .a) .live)) (simp (e, or-false) at (A .ids)) in
-      let l = not-false (thread k (c .b) .live) dead in
-      let m = not-false (message k (c .a) .live) gone in
+      let (_, high) = inside 1 channelCount (c .c) (simp (e, or-false) at (A .numbers)) in
+      let l = thread-named A e refl in
+      let m = message-named A e refl in
       let b = live-thread C (c .b) l in
       let t : asByte (c .b) ≡ c .b = mod-eq-of-lt (omega arith) in
       let n : asByte (c .c) ≡ c .c = mod-eq-of-lt (omega arith) in
@@ -137,12 +140,12 @@ module _ {k : Kernel} (B : Before k) {c : Call} (A : Accepted k c) where
 
   -- the caller takes a message that it owns, or blocks where there is none
   pub kind-27 : c .kind ≡ 27 → Good (pendMessage k c)
-  unfolding pendMessage receive badNumber blocksInRegion stopsCaller fromThread rowOf
+  unfolding pendMessage receive badNumber blocksInRegion stopsCaller named valueOf fromThread kindOf
   kind-27 e =
       let C = B .core in
       let mask = inside 1 32767 (c .b) (simp (e, or-false) at (A .numbers)) in
       let m = nextMessage k (c .b) in
-      let region : (inRegion k && eqb m 255) ≡ false = simp (e, or-false) at (A .region) in
+      let region : (inRegion (k .unscheduled) (k .critical) && eqb m 255) ≡ false = simp (e, or-false) at (A .region) in
       cases (eqb m 255)
       (λ h. rw h
       (block-good B (caller-ready B A (rw e)) (ForMessage (c .b)) (c .c) (omega arith) (simp (h, and-true) at region)

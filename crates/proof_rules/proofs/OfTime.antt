@@ -12,6 +12,7 @@ use Rattle.spec_kernel.specs.declared.records.Condition.the-variants.{Ready, As
 use Rattle.spec_kernel.specs.declared.records.Thread.{Thread}
 use Rattle.spec_kernel.specs.declared.records.Semaphore.{Semaphore}
 use Rattle.spec_kernel.specs.declared.records.Kernel.{Kernel}
+use Rattle.spec_kernel.specs.Sizes.{semaphoreCount}
 use Rattle.spec_kernel.specs.Records.{thread, semaphore}
 use Rattle.spec_kernel.specs.Places.{semaphoreQueue}
 use Rattle.spec_moves.specs.Moves.{threadIn}
@@ -115,5 +116,5 @@ kind-1 {k} B A _ =
     let C = scheduler-core (B .core) (later (k .uptime)) (k .unscheduled) (k .critical) (k .runner) in
     let becomes : (t : ℕ) → Becomes (k .semaphores) (untrue k) (thread k t) (threadIn (timePasses (threadsOf k)) t) =
     λ t. rw (passes-record (B .core .standing) t) (passes-becomes (k .semaphores) (untrue k) (thread k t) (B .core .threads t)) in
-    let (D, R, U) = pulses-keep (threads-core C (passes-standing (B .core .standing)) becomes) 0 16 in
+    let (D, R, U) = pulses-keep (threads-core C (passes-standing (B .core .standing)) becomes) 0 semaphoreCount in
     record { core = rw U D; runs = R (λ b. becomes (k .runner) .ready (B .runs b)) }

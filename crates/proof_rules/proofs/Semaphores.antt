@@ -18,8 +18,10 @@ use Rattle.spec_kernel.specs.Places.{semaphoreQueue}
 use Rattle.spec_kernel.specs.Free.{freeSemaphore}
 use Rattle.spec_rules.proofs.OfRecords.{LiveSemaphore, KeptSemaphore}
 use Rattle.spec_calls.specs.declared.call.Call.{Call}
-use Rattle.spec_calls.specs.Kinds.{rowOf, fromThread}
-use Rattle.spec_refusals.specs.Refusals.{badNumber, inRegion, stopsCaller, blocksInRegion, noneFree, hasWaiters, outside}
+use Rattle.spec_calls.specs.Kinds.{kindOf, fromThread}
+use Rattle.spec_refusals.specs.Named.{named, valueOf}
+use Rattle.spec_refusals.specs.Refusals.{badNumber, inRegion, stopsCaller, blocksInRegion, noneFree, outside}
+use Rattle.spec_refusals.proofs.Waiters.{has-waiters}
 use Rattle.spec_moves.specs.States.{withSemaphore}
 use Rattle.spec_semaphores.specs.Semaphores.{withCount, withTicks, raised, postTo, post}
 use Rattle.spec_threads.specs.Threads.{wake}
@@ -81,7 +83,7 @@ module _ {k : Kernel} (B : Before k) {c : Call} (A : Accepted k c) where
   semaphore-good i s F waiters = record { core = semaphore-core (B .core) i s F waiters; runs = B .runs }
 
   pub kind-14 : c .kind ≡ 14 → Good (createSemaphore k c)
-  unfolding createSemaphore badNumber noneFree
+  unfolding createSemaphore badNumber noneFree named valueOf kindOf
   kind-14 e =
       let (range, most) = neither (outside 1 65535 (c .c)) (ltb (c .c) (c .b)) (simp (e, or-false) at (A .numbers)) in
       let (low, high) = inside 1 65535 (c .c) range in
@@ -92,9 +94,11 @@ module _ {k : Kernel} (B : Before k) {c : Call} (A : Accepted k c) where
       (λ t w. absurd (false≢true (rw free at (waited-for (B .core) (freeSemaphore k) t w .0))))
 
   pub kind-15 : c .kind ≡ 15 → Good (destroySemaphore k c)
-  unfolding destroySemaphore hasWaiters
+  unfolding destroySemaphore
   kind-15 e =
-      let none = empty (semaphoreQueue k (c .a)) (not-false (isEmpty (semaphoreQueue k (c .a))) (rw e at (A .waiters))) in
+      let b = live-semaphore (B .core) (c .a) (semaphore-named A e refl) in
+      let w = sym (has-waiters k c (B .core .standing .count) (omega arith)) ∙ A .waiters in
+      let none = empty (semaphoreQueue k (c .a)) (not-false (isEmpty (semaphoreQueue k (c .a))) (rw e at w)) in
       semaphore-good (c .a) noSemaphore (record { living = λ l. absurd (false≢true l); gone = λ _. refl })
       (λ t w. absurd (none-waits (B .core) (c .a) none t w))
 
@@ -112,7 +116,7 @@ module _ {k : Kernel} (B : Before k) {c : Call} (A : Accepted k c) where
         semaphore-good (c .a) (withTicks ticks period s) (living l (record { maximum = L .maximum; count = L .count; ticks = h }))
         (waited-for (B .core) (c .a))
 
-    pend-good : fromThread c ≡ true → (eqb (s .count) 0 ≡ true → inRegion k ≡ false) → Good (pendSemaphore k c)
+    pend-good : fromThread c ≡ true → (eqb (s .count) 0 ≡ true → inRegion (k .unscheduled) (k .critical) ≡ false) → Good (pendSemaphore k c)
     unfolding pendSemaphore
     pend-good f out =
         cases (ltb 0 (s .count))
@@ -135,19 +139,19 @@ module _ {k : Kernel} (B : Before k) {c : Call} (A : Accepted k c) where
       let (delay, period) = neither (eqb (c .c) 0) (eqb (c .d) 0) (simp (e, or-false) at (A .numbers)) in
       let d = eqb-false (c .c) 0 delay in
       let p = eqb-false (c .d) 0 period in
-      ticks-good (semaphore-named A (rw e)) (c .c) (c .d) (λ z. absurd (p z), λ _. omega arith)
+      ticks-good (semaphore-named A e refl) (c .c) (c .d) (λ z. absurd (p z), λ _. omega arith)
 
   pub kind-17 : c .kind ≡ 17 → Good (removePeriodic k c)
   unfolding removePeriodic
-  kind-17 e = ticks-good (semaphore-named A (rw e)) 0 0 (omega arith)
+  kind-17 e = ticks-good (semaphore-named A e refl) 0 0 (omega arith)
 
   pub kind-18 : c .kind ≡ 18 → Good (pendSemaphore k c)
-  unfolding fromThread rowOf blocksInRegion stopsCaller
+  unfolding fromThread kindOf blocksInRegion stopsCaller named
   kind-18 e =
-      pend-good (semaphore-named A (rw e)) (rw e) (λ z. simp (e, z, and-true) at (A .region))
+      pend-good (semaphore-named A e refl) (rw e) (λ z. simp (e, z, and-true) at (A .region))
 
   pub kind-19 : c .kind ≡ 19 → Good (postSemaphore k c)
-  kind-19 e = post-good (semaphore-named A (rw e))
+  kind-19 e = post-good (semaphore-named A e refl)
 
   pub kind-28 : c .kind ≡ 28 → Good (postSemaphore k c)
-  kind-28 e = post-good (semaphore-named A (rw e))
+  kind-28 e = post-good (semaphore-named A e refl)

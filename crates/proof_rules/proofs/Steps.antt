@@ -17,6 +17,7 @@ use Rattle.spec_kernel.specs.declared.records.Wake.{Wake}
 use Rattle.spec_kernel.specs.declared.records.Thread.{Thread}
 use Rattle.spec_kernel.specs.declared.records.Semaphore.{Semaphore}
 use Rattle.spec_kernel.specs.declared.records.Kernel.{Kernel}
+use Rattle.spec_kernel.specs.Sizes.{threadCount, messageCount}
 use Rattle.spec_kernel.specs.Records.{thread, message}
 use Rattle.spec_kernel.specs.Conditions.{isReady, readyFor, awaits}
 use Rattle.spec_kernel.specs.Places.{homeOf, atHome, nowhere, semaphoreQueue}
@@ -33,7 +34,7 @@ use Rattle.proof_rules.proofs.Accepted.{Accepted, called}
 -- ---- records
 module _ {S : List Semaphore} {waited : ℕ → Bool} {r : Thread} (F : FineThread S waited r) (l : r .live ≡ true) where
   -- a live thread wakes
-  pub awake-fine : (why : Wake) (reply : ℕ) → (reply < 64) ⊎ (reply ≡ 255) → FineThread S waited (awake why reply r)
+  pub awake-fine : (why : Wake) (reply : ℕ) → (reply < messageCount) ⊎ (reply ≡ 255) → FineThread S waited (awake why reply r)
   awake-fine why reply b = record {
     living = λ _. record { priority = F .living l .priority; reply = b; condition = refl };
     gone = λ e. absurd (false≢true (sym e ∙ l));
@@ -74,7 +75,7 @@ module _ {waited : ℕ → Bool} {k : Kernel} (C : Core waited k) where
       home-line (256 + i) t (rw (live-waiter C t (λ z. let y : _≡_ {A = ℕ} 0 1 = cc in omega arith), e)) (omega arith)
 
   -- ---- who runs in a region is ready still
-  pub place-runs : (t : ℕ) → t < 32 → (r : Thread) → Runs k
+  pub place-runs : (t : ℕ) → t < threadCount → (r : Thread) → Runs k
       → (0 < k .unscheduled + k .critical → k .runner ≡ t → isReady r ≡ true) → Runs (moveThread t r k)
   place-runs t b r R h = λ p. each-thread C t b r (λ s. isReady s ≡ true) (k .runner) (h p) (λ _. R p)
 
@@ -96,7 +97,7 @@ caller-ready B A f = B .running (called A f)
 
 -- where no region is held it may block
 pub block-good : {k : Kernel} → Before k → isReady (thread k (k .runner)) ≡ true → (condition : Condition) (timeout : ℕ)
-    → Fits (k .semaphores) (untrue k) timeout condition → inRegion k ≡ false
+    → Fits (k .semaphores) (untrue k) timeout condition → inRegion (k .unscheduled) (k .critical) ≡ false
     → ((m : ℕ) → message k m .live ≡ true → message k m .owner ≡ k .runner → awaits condition (message k m .channel) ≡ false)
     → Good (block condition timeout k)
 unfolding block

@@ -10,10 +10,12 @@ use Rattle.spec_kernel.specs.declared.records.Condition.the-variants.{Asleep}
 use Rattle.spec_kernel.specs.declared.records.Thread.{Thread}
 use Rattle.spec_kernel.specs.declared.records.Semaphore.{Semaphore}
 use Rattle.spec_kernel.specs.declared.records.Kernel.{Kernel}
+use Rattle.spec_kernel.specs.Sizes.{threadCount, priorityCount}
 use Rattle.spec_kernel.specs.Records.{thread, noThread}
 use Rattle.spec_kernel.specs.Free.{freeThread}
 use Rattle.spec_calls.specs.declared.call.Call.{Call}
-use Rattle.spec_calls.specs.Kinds.{rowOf, fromThread}
+use Rattle.spec_calls.specs.Kinds.{kindOf, fromThread}
+use Rattle.spec_refusals.specs.Named.{named, valueOf}
 use Rattle.spec_refusals.specs.Refusals.{badNumber, stopsCaller, blocksInRegion, noneFree}
 use Rattle.spec_moves.specs.States.{moveThread, asByte}
 use Rattle.spec_threads.specs.Threads.{born, withPriority, createThread, setPriority, resetPriority, yielded, sleep}
@@ -24,7 +26,7 @@ use Rattle.proof_rules.proofs.Accepted.{Accepted, inside, thread-named}
 use Rattle.proof_rules.proofs.Steps.{ready-live, caller-ready, place-runs, block-good}
 
 -- ---- records
-born-fine : {S : List Semaphore} {waited : ℕ → Bool} (p : ℕ) → 1 ≤ p → p ≤ 30 → FineThread S waited (born p)
+born-fine : {S : List Semaphore} {waited : ℕ → Bool} (p : ℕ) → 1 ≤ p → p ≤ priorityCount → FineThread S waited (born p)
 born-fine p low high = record {
   living = λ _. record { priority = (low, high, low, high); reply = inr refl; condition = refl };
   gone = λ e. absurd (false≢true (sym e));
@@ -32,7 +34,7 @@ born-fine p low high = record {
 
 module _ {k : Kernel} (B : Before k) where
   -- a live thread gets a priority
-  priority-good : (t p : ℕ) → thread k t .live ≡ true → 1 ≤ p → p ≤ 30 → Good (moveThread t (withPriority p (thread k t)) k)
+  priority-good : (t p : ℕ) → thread k t .live ≡ true → 1 ≤ p → p ≤ priorityCount → Good (moveThread t (withPriority p (thread k t)) k)
   priority-good t p l low high =
       let C = B .core in
       let b = live-thread C t l in
@@ -46,12 +48,12 @@ module _ {k : Kernel} (B : Before k) where
 
   module _ {c : Call} (A : Accepted k c) where
     pub kind-2 : c .kind ≡ 2 → Good (createThread k c)
-    unfolding createThread badNumber noneFree
+    unfolding createThread badNumber noneFree named valueOf kindOf
     kind-2 e =
         let C = B .core in
-        let (low, high) = inside 1 30 (c .a) (simp (e, or-false) at (A .numbers)) in
+        let (low, high) = inside 1 priorityCount (c .a) (simp (e, or-false) at (A .numbers)) in
         let (b, _) = free-id (λ r. r .live) noThread (k .threads) (simp (e, or-false) at (A .free)) in
-        let b′ : freeThread k < 32 = omega (arith, C .standing .count) in
+        let b′ : freeThread k < threadCount = omega (arith, C .standing .count) in
         record {
           core = place-calm C (freeThread k) b′ (born (c .a)) (born-fine (c .a) low high) refl (λ _. refl);
           runs = place-runs C (freeThread k) b′ (born (c .a)) (B .runs) (λ _ _. refl);
@@ -60,18 +62,18 @@ module _ {k : Kernel} (B : Before k) where
     pub kind-4 : c .kind ≡ 4 → Good (setPriority k c)
     unfolding setPriority badNumber
     kind-4 e =
-        let (low, high) = inside 1 30 (c .b) (simp (e, or-false) at (A .numbers)) in
-        priority-good (c .a) (asByte (c .b)) (thread-named A (rw e)) (omega arith) (omega arith)
+        let (low, high) = inside 1 priorityCount (c .b) (simp (e, or-false) at (A .numbers)) in
+        priority-good (c .a) (asByte (c .b)) (thread-named A e refl) (omega arith) (omega arith)
 
     pub kind-5 : c .kind ≡ 5 → Good (resetPriority k c)
     unfolding resetPriority
     kind-5 e =
-        let l = thread-named A (rw e) in
+        let l = thread-named A e refl in
         let p = B .core .threads (c .a) .living l .priority in
         priority-good (c .a) (thread k (c .a) .first) l (p .2) (p .3)
 
     pub kind-6 : c .kind ≡ 6 → Good (yielded k c)
-    unfolding yielded fromThread rowOf
+    unfolding yielded fromThread kindOf
     kind-6 e =
         let C = B .core in
         let t = k .runner in
@@ -82,7 +84,7 @@ module _ {k : Kernel} (B : Before k) where
         }
 
     pub kind-7 : c .kind ≡ 7 → Good (sleep k c)
-    unfolding sleep fromThread rowOf badNumber blocksInRegion stopsCaller
+    unfolding sleep fromThread kindOf badNumber blocksInRegion stopsCaller
     kind-7 e =
         let n = eqb-false (c .c) 0 (simp (e, or-false) at (A .numbers)) in
         block-good B (caller-ready B A (rw e)) Asleep (c .c) (omega arith) (simp (e, and-true) at (A .region)) (λ _ _ _. refl)

@@ -18,23 +18,25 @@ use Rattle.spec_kernel.specs.declared.records.Wake.{Wake}
 use Rattle.spec_kernel.specs.declared.records.Thread.{Thread}
 use Rattle.spec_kernel.specs.declared.records.Event.{Event}
 use Rattle.spec_moves.specs.declared.parts.Threads.{Threads}
+use Rattle.spec_kernel.specs.Sizes.{threadCount, eventCount}
 use Rattle.spec_kernel.specs.Records.{noThread, noEvent}
-use Rattle.spec_kernel.specs.Places.{nowhere, eventHome, homeOf, rankOf}
+use Rattle.spec_kernel.specs.Conditions.{ofEvents}
+use Rattle.spec_kernel.specs.Places.{nowhere, home, homeOf, rankOf}
 use Rattle.spec_kernel.specs.Truth.{isTrue}
 use Rattle.spec_moves.specs.Moves.{threadIn, relocate}
 use Rattle.spec_moves.specs.Standing.{atHomeIn, Standing}
 use Rattle.spec_moves.proofs.Threads.{relocate-same, relocate-other, relocate-standing}
 use Rattle.spec_moves.specs.States.{each}
-use Rattle.spec_threads.specs.Threads.{awake}
-use Rattle.spec_events.specs.Events.{wakeIn, wokenIn, workOut, workOutFrom}
+use Rattle.spec_threads.specs.Threads.{awake, wakeIn, wokenIn}
+use Rattle.spec_events.specs.Events.{workOut, workOutFrom}
 use Rattle.spec_time.specs.Time.{reasonAt, timeUp, due, aged, ageAll, timePasses}
 
 -- ---- the records
 -- who has a record other than that of an id too large has an id
-has-id : {p : Threads} {t : ℕ} → Standing p → (threadIn p t ≡ noThread → ⊥) → t < 32
+has-id : {p : Threads} {t : ℕ} → Standing p → (threadIn p t ≡ noThread → ⊥) → t < threadCount
 has-id {p} {t} S h =
-    cases (ltb t 32) (ltb-true t 32)
-    (λ e. let b = ltb-false t 32 e in absurd (h (List·getD-eq-default (p .records) noThread (rw (S .count) b))))
+    cases (ltb t threadCount) (ltb-true t threadCount)
+    (λ e. let b = ltb-false t threadCount e in absurd (h (List·getD-eq-default (p .records) noThread (rw (S .count) b))))
 
 -- ---- one after the other, each for the reason that its record says
 abbrev pub woken : (Thread → Wake) → Thread → Thread
@@ -57,7 +59,7 @@ module _ (why : Thread → Wake) where
       (λ e. each-other t l (wakes why x p) (rw e at z) ∙ relocate-other p x (woken why (threadIn p x)) (λ q. eqb-false x t e (sym q)))
 
   -- who is called once wakes
-  pub each-member : {t : ℕ} (l : List ℕ) {p : Threads} → Standing p → t < 32 → count t l ≡ 1
+  pub each-member : {t : ℕ} (l : List ℕ) {p : Threads} → Standing p → t < threadCount → count t l ≡ 1
       → threadIn (each (wakes why) l p) t ≡ woken why (threadIn p t)
   each-member [] S b c = absurd (omega arith)
   each-member {t} (x ∷ l) {p} S b c =
@@ -118,15 +120,16 @@ Unwaited i p = (t : ℕ) → threadIn p t .condition ≡ ForEvent i → ⊥
 abbrev Lively : Thread → Type 0
 Lively r = r .live ≡ false → r .condition ≡ Ready
 
-event-home : (r : Thread) (i : ℕ) → Lively r → r .condition ≡ ForEvent i → homeOf r ≡ eventHome i
+event-home : (r : Thread) (i : ℕ) → Lively r → r .condition ≡ ForEvent i → homeOf r ≡ home ofEvents i
 unfolding homeOf
 event-home r i d e = cases (r .live) (λ l. rw (l, e)) (λ l. let z : _≡_ {A = ℕ} 0 1 = cc (d l) in absurd (omega arith))
 
-pub line-unwaited : {p : Threads} → Standing p → ((t : ℕ) → Lively (threadIn p t)) → (i : ℕ) → i < 8 → Unwaited i (wokenIn (eventHome i) p)
+pub line-unwaited : {p : Threads} → Standing p → ((t : ℕ) → Lively (threadIn p t)) → (i : ℕ) → i < eventCount
+    → Unwaited i (wokenIn (home ofEvents i) p)
 line-unwaited {p} S d i b t h =
-    let h′ = rw (line-woken S (eventHome i) (λ z. omega arith) t) at h in
-    cases (eqb (homeOf (threadIn p t)) (eventHome i)) (λ e. let z : _≡_ {A = ℕ} 0 1 = cc (rw e at h′) in omega arith)
-    (λ e. eqb-false (homeOf (threadIn p t)) (eventHome i) e (event-home (threadIn p t) i (d t) (rw e at h′)))
+    let h′ = rw (line-woken S (home ofEvents i) (λ z. omega arith) t) at h in
+    cases (eqb (homeOf (threadIn p t)) (home ofEvents i)) (λ e. let z : _≡_ {A = ℕ} 0 1 = cc (rw e at h′) in omega arith)
+    (λ e. eqb-false (homeOf (threadIn p t)) (home ofEvents i) e (event-home (threadIn p t) i (d t) (rw e at h′)))
 
 -- each TRUE one in turn
 module _ (events : List Event) (bits : ℕ) where
@@ -136,25 +139,25 @@ module _ (events : List Event) (bits : ℕ) where
   module _ {p : Threads} (S : Standing p) (i : ℕ) where
     out-standing : Standing (workOut events bits i p)
     unfolding workOut
-    out-standing = cases (isMet i) (λ e. rw e (line-standing S (eventHome i))) (λ e. rw e S)
+    out-standing = cases (isMet i) (λ e. rw e (line-standing S (home ofEvents i))) (λ e. rw e S)
 
-    out-lasts : (P : Thread → Type 0) → Lasts P → i < 8 → (t : ℕ) → P (threadIn p t) → P (threadIn (workOut events bits i p) t)
+    out-lasts : (P : Thread → Type 0) → Lasts P → i < eventCount → (t : ℕ) → P (threadIn p t) → P (threadIn (workOut events bits i p) t)
     unfolding workOut
-    out-lasts P f b t h = cases (isMet i) (λ e. rw e (line-lasts P f S (eventHome i) (λ z. omega arith) t h)) (λ e. rw e h)
+    out-lasts P f b t h = cases (isMet i) (λ e. rw e (line-lasts P f S (home ofEvents i) (λ z. omega arith) t h)) (λ e. rw e h)
 
   pub outs-standing : (i n : ℕ) {p : Threads} → Standing p → Standing (workOutFrom events bits i n p)
   unfolding workOutFrom
   outs-standing i zero S = S
   outs-standing i (suc n) S = outs-standing (suc i) n (out-standing S i)
 
-  pub outs-last : (P : Thread → Type 0) → Lasts P → (i n : ℕ) → i + n ≤ 8 → {p : Threads} → Standing p
+  pub outs-last : (P : Thread → Type 0) → Lasts P → (i n : ℕ) → i + n ≤ eventCount → {p : Threads} → Standing p
       → (t : ℕ) → P (threadIn p t) → P (threadIn (workOutFrom events bits i n p) t)
   unfolding workOutFrom
   outs-last P f i zero b S t h = h
   outs-last P f i (suc n) b S t h = outs-last P f (suc i) n (omega arith) (out-standing S i) t (out-lasts S i P f (omega arith) t h)
 
   -- nobody waits for one that is TRUE
-  pub outs-unwaited : (i n : ℕ) → i + n ≤ 8 → {p : Threads} → Standing p → ((t : ℕ) → Lively (threadIn p t))
+  pub outs-unwaited : (i n : ℕ) → i + n ≤ eventCount → {p : Threads} → Standing p → ((t : ℕ) → Lively (threadIn p t))
       → (j : ℕ) → i ≤ j → j < i + n → isMet j ≡ true → Unwaited j (workOutFrom events bits i n p)
   unfolding workOutFrom workOut
   outs-unwaited i zero b S d j c c′ h = absurd (omega arith)

@@ -36,7 +36,7 @@ never-14 k c = never-given 14 (omega arith) (refusals k c) refl
 
 -- a call on a state that keeps the rules is accepted or refused
 module _ (k : Kernel) (bytes : List ℕ) (h : keepsRules k ≡ true) (P : Stepped → Type 0) where
-  either : (numberOf k (callOf bytes) ≡ 0 → P (accepted k (callOf bytes)))
+  pub either : (numberOf k (callOf bytes) ≡ 0 → P (accepted k (callOf bytes)))
       → ((numberOf k (callOf bytes) ≡ 0 → ⊥) → P (refused (numberOf k (callOf bytes)) k)) → P (called k bytes)
   unfolding called step
   either a r =

@@ -1,5 +1,6 @@
 pub mod RunnerStays
 pub mod Kept
 pub mod WithLogs
+pub mod Following
 pub mod LeadsBack
 pub mod SamplesHold

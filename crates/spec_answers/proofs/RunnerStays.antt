@@ -14,7 +14,7 @@ use Rattle.spec_semaphores.specs.Semaphores.{pendSemaphore, postTo, post, postS
 use Rattle.spec_events.specs.Events.{workedOut, loadEvent, pendEvent, setBit, clearBit}
 use Rattle.spec_messages.specs.Messages.{createMessage, destroyMessage, handOver, postMessage, receive, pendMessage}
 use Rattle.spec_time.specs.Time.{pulse, pulseFrom, tick}
-use Rattle.spec_effects.specs.Effects.{Kind, noKind, effectsOfKinds, effect}
+use Rattle.spec_effects.specs.Effects.{Does, nothing, effectsOfKinds, effect}
 
 -- where both ways leave the runner, it stays
 cond-runner : (b : Bool) (x y : Kernel) → cond b x y .runner ≡ cond b (x .runner) (y .runner)
@@ -44,8 +44,8 @@ pulses-runner i (suc n) k = pulses-runner (suc i) n (pulse i k) ∙ pulse-runner
 
 module _ (k : Kernel) (c : Call) where
   -- the runners that the kinds of a list leave
-  abbrev runners : List Kind → List ℕ
-  runners l = map (λ x. x .does k c .runner) l
+  abbrev runners : List Does → List ℕ
+  runners l = map (λ x. x k c .runner) l
 
   -- Unfolded is each row of the table and what it is made of: a shut one would not show the runner that it leaves.
   same-runners : runners effectsOfKinds ≡ map (λ x. k .runner) effectsOfKinds
@@ -64,7 +64,7 @@ module _ (k : Kernel) (c : Call) where
       tick
   same-runners = simp (cond-runner, post-runner, pulses-runner, both)
 
-  runner-at : (l : List Kind) → runners l ≡ map (λ x. k .runner) l → (i : ℕ) → getD l i noKind .does k c .runner ≡ k .runner
+  runner-at : (l : List Does) → runners l ≡ map (λ x. k .runner) l → (i : ℕ) → getD l i nothing k c .runner ≡ k .runner
   runner-at [] e i = refl
   runner-at (x ∷ l) e zero = cc
   runner-at (x ∷ l) e (suc i) = runner-at l (cc) i

@@ -10,7 +10,8 @@ use Rattle.spec_kernel.specs.Records.{fresh}
 use Rattle.spec_kernel.specs.Places.{homeOf, rankOf}
 use Rattle.spec_kernel.specs.Runner.{chosen}
 use Rattle.spec_calls.specs.Calls.{callOf}
-use Rattle.spec_calls.specs.Kinds.{rowOf, isKnown, unusedAreZero, fromInterrupt, fromThread}
+use Rattle.spec_calls.specs.Kinds.{kindOf, isKnown, unusedAreZero, fromInterrupt, fromThread}
+use Rattle.spec_refusals.specs.Named.{waiterBy, valueOf, named}
 use Rattle.spec_refusals.specs.Refusals.{unknown, interruptsOff, noCaller, badNumber, badId, isInChannel, notOwner, hasWaiters, notPeriodic}
 use Rattle.spec_refusals.specs.Refusals.{popsNothing, stopsCaller, blocksInRegion, noneFree, numberOf}
 use Rattle.spec_moves.specs.Moves.{relocate}
@@ -19,7 +20,7 @@ use Rattle.spec_threads.specs.Threads.{block, createThread, yielded, sleep}
 use Rattle.spec_regions.specs.Regions.{pushUnscheduled, pushCritical}
 use Rattle.spec_semaphores.specs.Semaphores.{createSemaphore, pendSemaphore, post, postSemaphore}
 use Rattle.spec_time.specs.Time.{timeUp, due, ageAll, timePasses, pulse, pulseFrom, tick}
-use Rattle.spec_effects.specs.Effects.{effect, valueOf}
+use Rattle.spec_effects.specs.Effects.{effect}
 use Rattle.spec_rules.specs.Tests.{isNoThread, isNoSemaphore, isNoMessage, threadKept, semaphoreKept, messageKept, threadsKept}
 use Rattle.spec_rules.specs.Tests.{semaphoresKept, messagesKept, inRank, inTime, inStream, placesKept, timeKept, postedKept, runnerKept}
 use Rattle.spec_rules.specs.Tests.{keepsRules}
@@ -28,9 +29,9 @@ use Rattle.spec_notes.specs.Touched.{touchedSemaphore, touchedEvent, touchedMes
 use Rattle.spec_notes.specs.Predicted.{predictedScheduler}
 use Rattle.spec_notes.specs.Sections.{threadsSection, semaphoresSection, eventsSection, messagesSection, schedulerSection}
 use Rattle.spec_notes.specs.Notes.{beforeLength, noteOf}
-use Rattle.spec_notes.specs.Frames.{isWhole, firstSection, behindSection, framesFrom, framesOf}
+use Rattle.spec_notes.specs.Frames.{isWhole, firstSection, behindSection, sectionsAt, areWhole, sectionBytes, framesOf}
 use Rattle.spec_notes.specs.Back.{putBackAll, readThreads, threadsBefore, readSemaphores, semaphoresBefore, readEvents, bitsBefore}
-use Rattle.spec_notes.specs.Back.{eventsBefore, readMessages, messagesBefore, schedulerBefore, before, stateBefore}
+use Rattle.spec_notes.specs.Back.{eventsBefore, readMessages, messagesBefore, levelsBefore, threadsBack, postsBack, beforeAt, stateBefore}
 use Rattle.spec_notes.specs.Undo.{lastLength, hasLast, lastNote}
 use Rattle.spec_notes.specs.Same.{sameQueue, sameNumbers, sameKernel}
 use Rattle.spec_notes.specs.Undoes.{callBytes, backFrom, levelsFit, yieldsAgain, undoesNote, undoes}
@@ -50,10 +51,10 @@ unfolding
     -- spec_kernel
     fresh homeOf rankOf chosen
     -- spec_calls
-    callOf rowOf isKnown unusedAreZero fromInterrupt fromThread
+    callOf kindOf isKnown unusedAreZero fromInterrupt fromThread
     -- spec_refusals
     unknown interruptsOff noCaller badNumber badId isInChannel notOwner hasWaiters notPeriodic popsNothing stopsCaller blocksInRegion
-    noneFree numberOf
+    noneFree numberOf waiterBy valueOf named
     -- spec_moves
     relocate scheduled
     -- spec_threads
@@ -65,7 +66,7 @@ unfolding
     -- spec_time
     timeUp due ageAll timePasses pulse pulseFrom tick
     -- spec_effects
-    effect valueOf
+    effect
     -- spec_rules
     isNoThread isNoSemaphore isNoMessage threadKept semaphoreKept messageKept threadsKept semaphoresKept messagesKept inRank inTime
     inStream placesKept timeKept postedKept runnerKept keepsRules
@@ -75,9 +76,9 @@ unfolding
     predictedScheduler
     threadsSection semaphoresSection eventsSection messagesSection schedulerSection
     beforeLength noteOf
-    isWhole firstSection behindSection framesFrom framesOf
+    isWhole firstSection behindSection sectionsAt areWhole sectionBytes framesOf
     putBackAll readThreads threadsBefore readSemaphores semaphoresBefore readEvents bitsBefore eventsBefore readMessages messagesBefore
-    schedulerBefore before stateBefore
+    levelsBefore threadsBack postsBack beforeAt stateBefore
     lastLength hasLast lastNote
     sameQueue sameNumbers sameKernel
     callBytes backFrom levelsFit yieldsAgain undoesNote undoes

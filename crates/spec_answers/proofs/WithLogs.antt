@@ -16,7 +16,7 @@ use Rattle.spec_rules.proofs.Exactly.{rules-hold}
 use Rattle.spec_calls.specs.declared.call.Call.{Call}
 use Rattle.spec_calls.specs.Calls.{callOf}
 use Rattle.spec_refusals.specs.Refusals.{refusals, numberOf}
-use Rattle.spec_effects.specs.Effects.{valueOf}
+use Rattle.spec_refusals.specs.Named.{valueOf}
 use Rattle.spec_notes.specs.Undo.{lastLength, lastNote}
 use Rattle.spec_notes.specs.Undoes.{undoes}
 use Rattle.spec_notes.proofs.Lengths.{note-short}
@@ -53,7 +53,7 @@ module _ (k : Kernel) (bytes log : List ℕ) (used : ℕ) (P : Logged → List �
   Left n s = P (logged (answer n 255 (k .runner)) k used) log [] s
 
   -- on a state that keeps the rules a call is accepted, or finds no room, or is refused
-  pub one-of-three : (number ≡ 0 → room log used note ≡ true → Written)
+  one-of-three : (number ≡ 0 → room log used note ≡ true → Written)
       → (number ≡ 0 → room log used note ≡ false → Left 13 (accepted k (callOf bytes)))
       → ((number ≡ 0 → ⊥) → Left number (refused number k))
       → P (recorded k bytes log used) (logAfter k bytes log used) (partAfter k bytes log used) (step k (callOf bytes))
@@ -64,7 +64,7 @@ module _ (k : Kernel) (bytes log : List ℕ) (used : ℕ) (P : Logged → List �
       (λ e. rw e (r (eqb-false number 0 e)))
 
   -- or the state breaks a rule
-  one-of-four : (number ≡ 0 → room log used note ≡ true → Written)
+  pub one-of-four : (number ≡ 0 → room log used note ≡ true → Written)
       → (number ≡ 0 → room log used note ≡ false → Left 13 (accepted k (callOf bytes)))
       → ((number ≡ 0 → ⊥) → Left number (refused number k))
       → P (logged (answer 14 255 255) k used) log [] (record { answer = answer 14 255 255; kernel = k })
@@ -110,7 +110,7 @@ module _ (k′ : Kernel) (log : List ℕ) (used : ℕ) where
   was-undone r u = rw (r, u)
 
   -- where it isn't
-  not-undone : undoes k′ log used ≡ false
+  pub not-undone : undoes k′ log used ≡ false
       → undone k′ log used ≡ cond (keepsRules k′) (logged (answer 15 255 (k′ .runner)) k′ used) (logged (answer 14 255 255) k′ used)
   unfolding undone
   not-undone u = rw u

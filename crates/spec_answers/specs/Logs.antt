@@ -9,7 +9,7 @@ use Rattle.spec_kernel.specs.declared.records.Kernel.{Kernel}
 use Rattle.spec_rules.specs.Tests.{keepsRules}
 use Rattle.spec_calls.specs.Calls.{callOf}
 use Rattle.spec_refusals.specs.Refusals.{numberOf}
-use Rattle.spec_effects.specs.Effects.{valueOf}
+use Rattle.spec_refusals.specs.Named.{valueOf}
 use Rattle.spec_notes.specs.Notes.{noteOf}
 use Rattle.spec_notes.specs.Undo.{lastLength, lastNote}
 use Rattle.spec_notes.specs.Undoes.{backFrom, undoes}

@@ -4,7 +4,7 @@ use mathlib.Core.Path.{_≡_}
 use mathlib.Core.Bool.{true, false, cond}
 use mathlib.Core.List.{List, []}
 use mathlib.Core.Logic.{_↔_}
-use lib.ListN.{length, getD}
+use lib.ListN.{length, getD, drop}
 use Rattle.spec_kernel.specs.declared.records.Kernel.{Kernel}
 use Rattle.spec_kernel.specs.Runner.{firstReady}
 use Rattle.spec_rules.specs.Rules.{Sized, Rules}
@@ -18,7 +18,8 @@ use Rattle.spec_notes.specs.Undo.{lastNote, Yields}
 use Rattle.spec_answers.specs.declared.Logged.{Logged}
 use Rattle.spec_answers.specs.Steps.{answer, called}
 use Rattle.spec_answers.specs.Logs.{logged, stateAfter, noteFor, calledWith, logCalled, partCalled, undone}
-use Rattle.spec_answers.specs.Runs.{AreRecords, trail, backTimes, stateAt, begun, run, undoneTimes, pointAt}
+use Rattle.spec_answers.specs.Runs.{AreRecords, replayed, notes, backTimes, Run, Follows, Step, AreSteps, afterAll}
+use Rattle.spec_answers.specs.Runs.{counted, afterCalls, acceptedOf, acceptedFrom, ledBack, stoodAt, undoneTimes}
 
 -- ---- Demand 1: whatever sixteen bytes come as a call, on whatever state, they are answered.
 -- 14 exactly where a state rule is broken, with 255 for the value and for the runner, and the same state [01, table: number 14; answers 2].
@@ -134,20 +135,41 @@ NotesAreShort =
     → called k bytes .answer .number ≡ 0
     → length (noteFor k bytes) ≤ mostBytes k (stateAfter k bytes)
 
--- And so for many: whatever calls came, accepted or refused, on a state that keeps the rules, to undo the last j of all their notes
--- gives the very state that the last j accepted calls began with. Over lists of notes:
+-- ---- Demand 3 over many calls and undos, whatever the lent log holds and however much of it is used; Runs says what "follows" means.
+-- Whatever calls come, on whatever state, the run follows those of them that are accepted, and all of their notes are kept.
+unfoldable pub RunsFollow : Type 0
+RunsFollow =
+    (start : Run) (records : List (List ℕ)) → AreRecords records
+    → Follows start [] (acceptedOf start records) (afterCalls start records)
+
+-- Whatever calls came, accepted or refused, on a state that keeps the rules: to undo the last j of their notes answers 0, value 255 and who
+-- ran then, and gives the very state and used length that the run had when it had followed all accepted calls but the last j.
+unfoldable pub LogLeadsBack : Type 0
+LogLeadsBack =
+    (start : Run) (records : List (List ℕ)) (j : ℕ)
+    → Sized (start .kernel) → Rules (start .kernel) → Within (start .kernel) → AreRecords records
+    → j ≤ length (acceptedOf start records)
+    → (let r = afterCalls start records in
+    undoneTimes j r ≡ ledBack (stoodAt start [] (drop j (acceptedOf start records)) (r .log)))
+
+-- The same, said of the run as it stood between two calls: to undo as many notes as of the later ones were accepted leads there.
+unfoldable pub LedBetween : Type 0
+LedBetween =
+    (start : Run) (earlier later : List (List ℕ))
+    → Sized (start .kernel) → Rules (start .kernel) → Within (start .kernel) → AreRecords earlier → AreRecords later
+    → (let between = afterCalls start earlier in
+    undoneTimes (length (acceptedOf between later)) (afterCalls between later) ≡ ledBack between)
+
+-- Without a log: whatever calls came, accepted or refused, the last j notes lead back to the very state before the last j accepted ones.
 unfoldable pub NotesLeadBack : Type 0
 NotesLeadBack =
     (k : Kernel) (records : List (List ℕ)) (j : ℕ) → Sized k → Rules k → Within k → AreRecords records
-    → (let t = trail (record { kernel = k; kept = [] }) records in
-    backTimes j (t .kernel) (t .kept) ≡ stateAt j (t .kernel) (t .kept))
+    → (let calls = acceptedFrom k [] records in
+    backTimes j (replayed k calls) (notes k calls) ≡ replayed k (drop j calls))
 
--- and over the log's bytes: each of the undos answers 0, value 255 and the runner then, and gives the length of log before its call.
-unfoldable pub LogLeadsBack : Type 0
-LogLeadsBack =
-    (k : Kernel) (log : List ℕ) (used : ℕ) (records : List (List ℕ)) (j : ℕ)
-    → Sized k → Rules k → Within k → ((i : ℕ) → getD log i 0 < 256) → AreRecords records
-    → j ≤ length (run (begun k log used) records .earlier)
-    → (let r = run (begun k log used) records in
-    undoneTimes j (r .point .kernel) (r .log) (r .point .used)
-    ≡ logged (answer 0 255 (pointAt r j .kernel .runner)) (pointAt r j .kernel) (pointAt r j .used))
+-- From an empty log, after any mix of calls and undos, refused ones too, the run follows the calls that were accepted and not undone.
+unfoldable pub AnyMix : Type 0
+AnyMix =
+    (start : Run) (steps : List Step)
+    → Sized (start .kernel) → Rules (start .kernel) → Within (start .kernel) → start .used ≡ 0 → AreSteps steps
+    → Follows start [] (counted [] start steps) (afterAll start steps)

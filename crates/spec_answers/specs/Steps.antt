@@ -6,9 +6,10 @@ use lib.Dec.{eqb}
 use Rattle.spec_kernel.specs.declared.records.Kernel.{Kernel}
 use Rattle.spec_calls.specs.declared.call.Call.{Call}
 use Rattle.spec_calls.specs.Calls.{callOf}
+use Rattle.spec_refusals.specs.Named.{valueOf}
 use Rattle.spec_refusals.specs.Refusals.{numberOf}
 use Rattle.spec_moves.specs.States.{scheduled}
-use Rattle.spec_effects.specs.Effects.{effect, valueOf}
+use Rattle.spec_effects.specs.Effects.{effect}
 use Rattle.spec_rules.specs.Tests.{keepsRules}
 use Rattle.spec_answers.specs.declared.Answer.{Answer}
 

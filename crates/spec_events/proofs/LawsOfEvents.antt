@@ -20,14 +20,17 @@ use Rattle.spec_kernel.specs.declared.records.Thread.{Thread}
 use Rattle.spec_kernel.specs.declared.records.Event.{Event}
 use Rattle.spec_kernel.specs.declared.records.Kernel.{Kernel}
 use Rattle.spec_moves.specs.declared.parts.Threads.{Threads}
+use Rattle.spec_kernel.specs.Sizes.{semaphoreCount, eventCount, bitCount}
 use Rattle.spec_kernel.specs.Records.{thread, event, noEvent}
-use Rattle.spec_kernel.specs.Places.{eventHome, atHome, readyList, semaphoreQueue, eventQueue, timeQueue}
+use Rattle.spec_kernel.specs.Conditions.{ofEvents}
+use Rattle.spec_kernel.specs.Places.{home, atHome, readyList, semaphoreQueue, eventQueue, timeQueue}
 use Rattle.spec_kernel.specs.Truth.{isTrue}
 use Rattle.spec_moves.specs.Moves.{threadIn}
 use Rattle.spec_moves.specs.Standing.{threadsOf, atHomeIn, Standing}
 use Rattle.spec_calls.specs.declared.call.Call.{Call}
 use Rattle.spec_moves.specs.States.{withEvents, each}
-use Rattle.spec_events.specs.Events.{wakeIn, wokenIn, workOut, workOutFrom, workedOut, loadEvent, pendEvent, setBit, clearBit}
+use Rattle.spec_events.specs.Events.{workOut, workOutFrom, workedOut, loadEvent, pendEvent, setBit, clearBit}
+use Rattle.spec_threads.specs.Threads.{wakeIn, wokenIn}
 use Rattle.spec_kernel.specs.WordsOfLaws.{Runnable, readied, SameMessages, SameScheduler, OnlyThreads}
 use Rattle.spec_threads.proofs.LawsOfLists.{withoutAll, keep-none}
 use Rattle.spec_threads.proofs.LawsOfHomes.{line-home, line-absent, line-once, line-stopped}
@@ -37,7 +40,7 @@ use Rattle.spec_threads.proofs.LawsOfBlocking.{Blocked, block-blocks, block-onl
 -- the waiters of those of n events from i on that are TRUE: in id order, and of each in queue order
 unfoldable pub waitersFrom : (ℕ → Bool) → Threads → ℕ → ℕ → List ℕ
 waitersFrom met p i zero = []
-waitersFrom met p i (suc n) = cond (met i) (atHomeIn p (eventHome i)) [] ++ waitersFrom met p (suc i) n
+waitersFrom met p i (suc n) = cond (met i) (atHomeIn p (home ofEvents i)) [] ++ waitersFrom met p (suc i) n
 
 -- event i is TRUE
 abbrev pub isMet : Kernel → ℕ → Bool
@@ -45,24 +48,24 @@ isMet k i = isTrue (k .bits) (event k i)
 
 -- who wakes between k and k′: the waiters of k of the events that are TRUE in k′
 abbrev pub waiters : Kernel → Kernel → List ℕ
-waiters k k′ = waitersFrom (isMet k′) (threadsOf k) 0 8
+waiters k k′ = waitersFrom (isMet k′) (threadsOf k) 0 eventCount
 
 -- The events of k′ are worked out, the lowest id first: all that waited for a TRUE one wake, as they stood [01, calls: Event 5].
 pub record WorkedOut (k k′ : Kernel) : Type 0 where
   -- nobody waits for a TRUE event
-  pub nobody : (i : ℕ) → i < 8 → isMet k′ i ≡ true → eventQueue k′ i ≡ []
+  pub nobody : (i : ℕ) → i < eventCount → isMet k′ i ≡ true → eventQueue k′ i ≡ []
   -- the queues of the other events, and of semaphores, are as they were
-  pub events : (i : ℕ) → i < 8 → isMet k′ i ≡ false → eventQueue k′ i ≡ eventQueue k i
-  pub semaphores : (i : ℕ) → i < 16 → semaphoreQueue k′ i ≡ semaphoreQueue k i
+  pub events : (i : ℕ) → i < eventCount → isMet k′ i ≡ false → eventQueue k′ i ≡ eventQueue k i
+  pub semaphores : (i : ℕ) → i < semaphoreCount → semaphoreQueue k′ i ≡ semaphoreQueue k i
   -- each ready list gets the waiters of its priority, in id order of their events, and of each event in queue order
   pub lists : (p : ℕ) → p < 256 → readyList k′ p ≡ readyList k p ++ keep (λ t. eqb (thread k t .priority) p) (waiters k k′)
   -- they leave the time queue, where the others keep their order
   pub time : timeQueue k′ ≡ withoutAll (waiters k k′) (timeQueue k)
   -- who stood in the queue of a TRUE event is awake, as met
-  pub woken : (t i : ℕ) → i < 8 → isMet k′ i ≡ true → 0 < count t (eventQueue k i)
+  pub woken : (t i : ℕ) → i < eventCount → isMet k′ i ≡ true → 0 < count t (eventQueue k i)
       → thread k′ t ≡ readied Wake.Met (thread k t .reply) (thread k t)
   -- and nobody else's record changes
-  pub others : (t : ℕ) → ((i : ℕ) → i < 8 → isMet k′ i ≡ true → count t (eventQueue k i) ≡ 0) → thread k′ t ≡ thread k t
+  pub others : (t : ℕ) → ((i : ℕ) → i < eventCount → isMet k′ i ≡ true → count t (eventQueue k i) ≡ 0) → thread k′ t ≡ thread k t
   -- nothing else but events and bits does
   pub counts : k′ .semaphores ≡ k .semaphores
   pub messages : SameMessages k k′
@@ -88,7 +91,7 @@ record Waits (met : ℕ → Bool) (p : Threads) (i n t : ℕ) : Type 0 where
   from : i ≤ event
   to : event < i + n
   holds : met event ≡ true
-  there : 0 < count t (atHomeIn p (eventHome event))
+  there : 0 < count t (atHomeIn p (home ofEvents event))
 
 module _ (met : ℕ → Bool) {p : Threads} (S : Standing p) (t : ℕ) where
   -- each waits for a TRUE one
@@ -96,7 +99,7 @@ module _ (met : ℕ → Bool) {p : Threads} (S : Standing p) (t : ℕ) where
   unfolding waitersFrom
   waiter-waits i zero c = absurd (omega arith)
   waiter-waits i (suc n) c =
-      let l = cond (met i) (atHomeIn p (eventHome i)) [] in
+      let l = cond (met i) (atHomeIn p (home ofEvents i)) [] in
       let d = rw count-append at c in
       cases (ltb 0 (count t l))
       (λ e. cases (met i)
@@ -105,7 +108,7 @@ module _ (met : ℕ → Bool) {p : Threads} (S : Standing p) (t : ℕ) where
         from = omega arith;
         to = omega arith;
         holds = m;
-        there = ltb-true 0 (count t (atHomeIn p (eventHome i)))
+        there = ltb-true 0 (count t (atHomeIn p (home ofEvents i)))
             (rw m at e);
       })
       (λ m. absurd (false≢true (rw m at e))))
@@ -113,7 +116,7 @@ module _ (met : ℕ → Bool) {p : Threads} (S : Standing p) (t : ℕ) where
       record { event = W .event; from = omega (arith, W .from); to = omega (arith, W .to); holds = W .holds; there = W .there })
 
   -- who waits for one is among them
-  waits-waiter : (i n j : ℕ) → i ≤ j → j < i + n → met j ≡ true → 0 < count t (atHomeIn p (eventHome j))
+  waits-waiter : (i n j : ℕ) → i ≤ j → j < i + n → met j ≡ true → 0 < count t (atHomeIn p (home ofEvents j))
       → 0 < count t (waitersFrom met p i n)
   unfolding waitersFrom
   waits-waiter i zero j a b m c = absurd (omega arith)
@@ -129,13 +132,13 @@ module _ (met : ℕ → Bool) {p : Threads} (S : Standing p) (t : ℕ) where
   waiter-once i zero = omega arith
   waiter-once i (suc n) =
       let r = waiter-once (suc i) n in
-      let one = line-once S t (eventHome i) in
+      let one = line-once S t (home ofEvents i) in
       rw count-append
       (cases (met i)
       (λ m. rw m
       (cases (ltb 0 (count t (waitersFrom met p (suc i) n)))
       (λ e. let W = waiter-waits (suc i) n (ltb-true 0 _ e) in
-      let z = line-absent S t (eventHome i) (λ z. omega (arith, W .from, line-home S t (eventHome (W .event)) (W .there))) in
+      let z = line-absent S t (home ofEvents i) (λ z. omega (arith, W .from, line-home S t (home ofEvents (W .event)) (W .there))) in
       omega arith)
       (λ e. omega (arith, ltb-false))))
       (λ m. rw m (omega arith)))
@@ -147,8 +150,8 @@ module _ (events : List Event) (bits : ℕ) where
 
   module _ {p : Threads} (S : Standing p) (B : Bytes p) where
     -- the waiters of one event are each named once, and wait
-    line-called : (i : ℕ) → Called p (atHomeIn p (eventHome i))
-    line-called i t c = (omega (arith, line-once S t (eventHome i)), line-stopped S t (B t) (omega arith) c)
+    line-called : (i : ℕ) → Called p (atHomeIn p (home ofEvents i))
+    line-called i t c = (omega (arith, line-once S t (home ofEvents i)), line-stopped S t (B t) (omega arith) c)
 
     waiters-called : (i n : ℕ) → Called p (waitersFrom met p i n)
     waiters-called i n t c =
@@ -156,27 +159,27 @@ module _ (events : List Event) (bits : ℕ) where
         (omega (arith, waiter-once met S t i n), line-stopped S t (B t) (omega arith) (W .there))
 
     -- once one event is worked out all stand in place, and the priorities and the later events' queues are as they were
-    line-stands : (i : ℕ) → Standing (wokenIn (eventHome i) p)
+    line-stands : (i : ℕ) → Standing (wokenIn (home ofEvents i) p)
     unfolding wokenIn wakeIn
-    line-stands i = each-woken asMet (atHomeIn p (eventHome i)) S (line-called i) .standing
+    line-stands i = each-woken asMet (atHomeIn p (home ofEvents i)) S (line-called i) .standing
 
-    line-bytes : (i : ℕ) → Bytes (wokenIn (eventHome i) p)
+    line-bytes : (i : ℕ) → Bytes (wokenIn (home ofEvents i) p)
     unfolding wokenIn wakeIn
     line-bytes i t =
-        let A = each-woken asMet (atHomeIn p (eventHome i)) S (line-called i) in
-        cases (ltb 0 (count t (atHomeIn p (eventHome i))))
+        let A = each-woken asMet (atHomeIn p (home ofEvents i)) S (line-called i) in
+        cases (ltb 0 (count t (atHomeIn p (home ofEvents i))))
         (λ e. rw (A .woken t (ltb-true 0 _ e)) (B t))
         (λ e. rw (A .others t (omega (arith, ltb-false))) (B t))
 
-    line-later : (i j : ℕ) → i < j → atHomeIn (wokenIn (eventHome i) p) (eventHome j) ≡ atHomeIn p (eventHome j)
+    line-later : (i j : ℕ) → i < j → atHomeIn (wokenIn (home ofEvents i) p) (home ofEvents j) ≡ atHomeIn p (home ofEvents j)
     unfolding wokenIn wakeIn
     line-later i j b =
-        let A = each-woken asMet (atHomeIn p (eventHome i)) S (line-called i) in
-        A .queues (eventHome j) (omega arith)
-        ∙ keep-all (atHomeIn p (eventHome j))
-        (λ t c. rw (line-absent S t (eventHome i) (λ z. omega (arith, line-home S t (eventHome j) c))))
+        let A = each-woken asMet (atHomeIn p (home ofEvents i)) S (line-called i) in
+        A .queues (home ofEvents j) (omega arith)
+        ∙ keep-all (atHomeIn p (home ofEvents j))
+        (λ t c. rw (line-absent S t (home ofEvents i) (λ z. omega (arith, line-home S t (home ofEvents j) c))))
 
-    waiters-later : (i j n : ℕ) → i < j → waitersFrom met (wokenIn (eventHome i) p) j n ≡ waitersFrom met p j n
+    waiters-later : (i j n : ℕ) → i < j → waitersFrom met (wokenIn (home ofEvents i) p) j n ≡ waitersFrom met p j n
     unfolding waitersFrom
     waiters-later i j zero b = refl
     waiters-later i j (suc n) b = rw (line-later i j b, waiters-later i (suc j) n (omega arith))
@@ -197,38 +200,39 @@ module _ (events : List Event) (bits : ℕ) where
     after = workedOut (withEvents events bits k)
 
     abbrev called : List ℕ
-    called = waitersFrom met (threadsOf k) 0 8
+    called = waitersFrom met (threadsOf k) 0 eventCount
 
     all-woken : AllWoken asMet called (threadsOf k) (threadsOf after)
     unfolding workedOut wakeIn
-    all-woken = rw (outs-wake 0 8 S B) (each-woken asMet called S (waiters-called S B 0 8))
+    all-woken = rw (outs-wake 0 eventCount S B) (each-woken asMet called S (waiters-called S B 0 eventCount))
 
     -- who waits for no TRUE event is not called
-    uncalled : (t : ℕ) → ((i : ℕ) → i < 8 → met i ≡ true → count t (eventQueue k i) ≡ 0) → count t called ≡ 0
+    uncalled : (t : ℕ) → ((i : ℕ) → i < eventCount → met i ≡ true → count t (eventQueue k i) ≡ 0) → count t called ≡ 0
     uncalled t h =
         cases (ltb 0 (count t called))
-        (λ e. let W = waiter-waits met S t 0 8 (ltb-true 0 _ e) in absurd
+        (λ e. let W = waiter-waits met S t 0 eventCount (ltb-true 0 _ e) in absurd
         (omega (arith, h (W .event) (omega (arith, W .to)) (W .holds), W .there)))
         (λ e. omega (arith, ltb-false))
 
     -- a queue that is no TRUE event's is as it was
-    queue-stays : (h : ℕ) → 256 ≤ h → ((i : ℕ) → i < 8 → met i ≡ true → h ≡ eventHome i → ⊥) → atHome after h ≡ atHome k h
+    queue-stays : (h : ℕ) → 256 ≤ h → ((i : ℕ) → i < eventCount → met i ≡ true → h ≡ home ofEvents i → ⊥) → atHome after h ≡ atHome k h
     queue-stays h b ne =
         all-woken .queues h b
         ∙ keep-all (atHome k h)
-        (λ t c. rw (uncalled t (λ i s m. line-absent S t (eventHome i) (λ z. ne i s m (sym (line-home S t h c) ∙ z)))))
+        (λ t c. rw (uncalled t (λ i s m. line-absent S t (home ofEvents i) (λ z. ne i s m (sym (line-home S t h c) ∙ z)))))
 
     works-out : WorkedOut k after
     unfolding workedOut
     works-out = record {
       nobody = λ i b m.
-          all-woken .queues (eventHome i) (omega arith)
-          ∙ keep-none (eventQueue k i) (λ t c. rw (lt-ltb 0 (count t called) (waits-waiter met S t 0 8 i (omega arith) (omega arith) m c)));
-      events = λ i b m. queue-stays (eventHome i) (omega arith) (λ j s n z. let e : i ≡ j = omega arith in false≢true (sym m ∙ rw e n));
+          all-woken .queues (home ofEvents i) (omega arith)
+          ∙ keep-none (eventQueue k i)
+          (λ t c. rw (lt-ltb 0 (count t called) (waits-waiter met S t 0 eventCount i (omega arith) (omega arith) m c)));
+      events = λ i b m. queue-stays (home ofEvents i) (omega arith) (λ j s n z. let e : i ≡ j = omega arith in false≢true (sym m ∙ rw e n));
       semaphores = λ i b. queue-stays (256 + i) (omega arith) (λ j s n z. omega arith);
       lists = all-woken .lists;
       time = all-woken .time;
-      woken = λ t i b m c. all-woken .woken t (waits-waiter met S t 0 8 i (omega arith) (omega arith) m c);
+      woken = λ t i b m c. all-woken .woken t (waits-waiter met S t 0 eventCount i (omega arith) (omega arith) m c);
       others = λ t h. all-woken .others t (uncalled t h);
       counts = refl;
       messages = record { records = refl; posted = refl };
@@ -242,7 +246,7 @@ worked-out k S B = works-out (k .events) (k .bits) k S B
 -- ---- the calls
 module _ (k : Kernel) (c : Call) where
   -- set: bit a is set, and no other bit or event changes; clear likewise
-  pub set-sets : c .a < 32 → bitAt (setBit k c .bits) (c .a) ≡ true
+  pub set-sets : c .a < bitCount → bitAt (setBit k c .bits) (c .a) ≡ true
   unfolding setBit workedOut
   set-sets b = bit-same (k .bits) (c .a) b
 
@@ -300,7 +304,7 @@ module _ (k : Kernel) (c : Call) where
 
   module _ (m : isMet k (c .a) ≡ false) where
     pub pend-event-blocks : Standing (threadsOf k) → Runnable (thread k (k .runner))
-        → Blocked (ForEvent (c .a)) (c .c) (eventHome (c .a)) (k .runner) k (pendEvent k c)
+        → Blocked (ForEvent (c .a)) (c .c) (home ofEvents (c .a)) (k .runner) k (pendEvent k c)
     unfolding pendEvent
     pend-event-blocks S R = rw m (block-blocks k S R (ForEvent (c .a)) (c .c) refl (omega arith))
 

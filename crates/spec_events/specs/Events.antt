@@ -6,30 +6,22 @@ use lib.Dec.{eqb}
 use lib.ListN.{getD}
 use Rattle.base_bits.specs.Words.{withBit, withoutBit}
 use Rattle.spec_kernel.specs.declared.records.Condition.the-variants.{ForEvent}
-use Rattle.spec_kernel.specs.declared.records.Wake.{Wake}
 use Rattle.spec_kernel.specs.declared.records.Event.{Event}
 use Rattle.spec_kernel.specs.declared.records.Kernel.{Kernel}
 use Rattle.spec_moves.specs.declared.parts.Threads.{Threads}
+use Rattle.spec_kernel.specs.Sizes.{eventCount}
 use Rattle.spec_kernel.specs.Records.{event, noEvent}
-use Rattle.spec_kernel.specs.Places.{eventHome}
+use Rattle.spec_kernel.specs.Conditions.{ofEvents}
+use Rattle.spec_kernel.specs.Places.{home}
 use Rattle.spec_kernel.specs.Truth.{isTrue}
-use Rattle.spec_moves.specs.Moves.{relocate, threadIn}
-use Rattle.spec_moves.specs.Standing.{threadsOf, atHomeIn}
+use Rattle.spec_moves.specs.Standing.{threadsOf}
 use Rattle.spec_calls.specs.declared.call.Call.{Call}
-use Rattle.spec_moves.specs.States.{withThreads, withEvent, withBits, each}
-use Rattle.spec_threads.specs.Threads.{awake, block}
-
--- thread t wakes as met
-unfoldable pub wakeIn : ℕ → Threads → Threads
-wakeIn t p = relocate t (awake Wake.Met (threadIn p t .reply) (threadIn p t)) p
-
--- all that stand in a queue wake, in queue order
-unfoldable pub wokenIn : ℕ → Threads → Threads
-wokenIn home p = each wakeIn (atHomeIn p home) p
+use Rattle.spec_moves.specs.States.{withThreads, withEvent, withBits}
+use Rattle.spec_threads.specs.Threads.{block, wokenIn}
 
 -- If event i is TRUE, all that wait for it wake, the first in its queue first [01, calls: Event 5].
 unfoldable pub workOut : List Event → ℕ → ℕ → Threads → Threads
-workOut events bits i p = cond (isTrue bits (getD events i noEvent)) (wokenIn (eventHome i) p) p
+workOut events bits i p = cond (isTrue bits (getD events i noEvent)) (wokenIn (home ofEvents i) p) p
 
 -- n events from i on, in id order
 unfoldable pub workOutFrom : List Event → ℕ → ℕ → ℕ → Threads → Threads
@@ -38,7 +30,7 @@ workOutFrom events bits i (suc n) p = workOutFrom events bits (suc i) n (workOut
 
 -- All events, the lowest id first; kinds 20, 22, 23, 29 and 30 end with this, in a region too [01, calls: Event 5].
 unfoldable pub workedOut : Kernel → Kernel
-workedOut k = withThreads (workOutFrom (k .events) (k .bits) 0 8 (threadsOf k)) k
+workedOut k = withThreads (workOutFrom (k .events) (k .bits) 0 eventCount (threadsOf k)) k
 
 -- kind 20: load event a, mode b (0 all, 1 any), mask c, values d
 unfoldable pub loadEvent : Kernel → Call → Kernel

@@ -14,6 +14,7 @@ use Rattle.base_queue.proofs.Counts.{count-head, kept, keep-keep, keep-same}
 use Rattle.base_queue.proofs.Orders.{ordered-low, ordered-keep, ordered-mono}
 use Rattle.spec_kernel.specs.declared.records.Message.{Message}
 use Rattle.spec_kernel.specs.declared.records.Kernel.{Kernel}
+use Rattle.spec_kernel.specs.Sizes.{channelCount}
 use Rattle.spec_kernel.specs.Records.{noMessage, message}
 use Rattle.spec_kernel.specs.Conditions.{masks}
 use Rattle.spec_kernel.specs.Places.{streamOf, channel}
@@ -88,7 +89,7 @@ module _ (k : Kernel) (t mask : ℕ) where
       (masked-first x l e low (suc c) n (omega (arith, ne)) (omega arith)))
 
   module _ (o : Ordered (λ m. streamOf (message k m)) (items (k .posted)))
-      (few : (m : ℕ) → 0 < count m (items (k .posted)) → message k m .channel ≤ 15) where
+      (few : (m : ℕ) → 0 < count m (items (k .posted)) → message k m .channel ≤ channelCount) where
     -- of one owner, they are in the order of their channels
     by-number : Ordered number mine
     unfolding streamOf
@@ -97,7 +98,7 @@ module _ (k : Kernel) (t mask : ℕ) where
         (ordered-keep (λ m. streamOf (message k m)) (isMine (k .messages) t mask) (items (k .posted)) o)
 
     -- each is on one of the channels 1 to 15
-    in-range : (m : ℕ) → 0 < count m mine → (1 ≤ number m) × (number m ≤ 15)
+    in-range : (m : ℕ) → 0 < count m mine → (1 ≤ number m) × (number m ≤ channelCount)
     in-range m c = (
       ltb-true 0 (number m) (and-eq-true-iff (ltb 0 (number m)) _ .0 (mine-means m c .1) .0),
       few m (kept (isMine (k .messages) t mask) (items (k .posted)) c .1),
@@ -108,11 +109,11 @@ module _ (k : Kernel) (t mask : ℕ) where
     unfolding firstFor lowestMasked
     next-lowest = go mine refl
       where
-        go : (l : List ℕ) → mine ≡ l → firstOf mine ≡ firstOf (maskedFrom k t mask 1 15)
-        go [] e = rw (e, masked-none 1 15 (λ m c. absurd (omega (arith, rw e at c))))
+        go : (l : List ℕ) → mine ≡ l → firstOf mine ≡ firstOf (maskedFrom k t mask 1 channelCount)
+        go [] e = rw (e, masked-none 1 channelCount (λ m c. absurd (omega (arith, rw e at c))))
         go (x ∷ l) e =
             let after : Ordered number (x ∷ l) = rw e at by-number in
             let low : (m : ℕ) → 0 < count m mine → number x ≤ number m =
             λ m c. ordered-low number {low = number x} (x ∷ l) (omega arith, after .1) m (rw e at c) in
             let (a, b) = in-range x (rw e (count-head x l)) in
-            rw e (sym (masked-first x l e low 1 15 a (omega arith)))
+            rw e (sym (masked-first x l e low 1 channelCount a (omega arith)))

@@ -9,6 +9,7 @@ use Rattle.base_queue.specs.Lists.{keep, firstOf}
 use Rattle.base_queue.specs.Queues.{items}
 use Rattle.spec_kernel.specs.declared.records.Message.{Message}
 use Rattle.spec_kernel.specs.declared.records.Kernel.{Kernel}
+use Rattle.spec_kernel.specs.Sizes.{channelCount}
 use Rattle.spec_kernel.specs.Records.{noMessage}
 use Rattle.spec_kernel.specs.Conditions.{masks}
 use Rattle.spec_kernel.specs.Places.{channel}
@@ -20,7 +21,7 @@ maskedFrom k t mask c (suc n) = cond (masks mask c) (channel k t c) [] ++ masked
 
 -- The message that a pend gets: of the channels it asks for, the lowest with any, and there the oldest; else 255 [01, calls: Message 3].
 unfoldable pub lowestMasked : Kernel → ℕ → ℕ → ℕ
-lowestMasked k t mask = firstOf (maskedFrom k t mask 1 15)
+lowestMasked k t mask = firstOf (maskedFrom k t mask 1 channelCount)
 
 abbrev pub isFor : ℕ → ℕ → Message → Bool
 isFor t mask r = eqb (r .owner) t && masks mask (r .channel)

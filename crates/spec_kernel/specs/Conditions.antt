@@ -6,6 +6,7 @@ use Rattle.base_bits.specs.Words.{bitAt}
 use Rattle.spec_kernel.specs.declared.records.Condition.{Condition}
 use Rattle.spec_kernel.specs.declared.records.Condition.the-variants.{Ready, Asleep, ForSemaphore, ForEvent, ForMessage}
 use Rattle.spec_kernel.specs.declared.records.Thread.{Thread}
+use Rattle.spec_kernel.specs.Sizes.{semaphoreCount, eventCount}
 
 abbrev pub readyFor : Condition → Bool
 readyFor Ready = true
@@ -18,27 +19,27 @@ readyFor (ForMessage mask) = false
 abbrev pub isReady : Thread → Bool
 isReady r = r .live && readyFor (r .condition)
 
-abbrev pub onSemaphore : ℕ → Condition → Bool
-onSemaphore i Ready = false
-onSemaphore i Asleep = false
-onSemaphore i (ForSemaphore j) = eqb j i
-onSemaphore i (ForEvent j) = false
-onSemaphore i (ForMessage mask) = false
+-- The classes of objects that have a queue of waiting threads [01, state 1.3].
+pub data Class : Type 0 where
+  ofSemaphores : Class
+  ofEvents : Class
 
--- a live thread that waits for semaphore i
-abbrev pub waitsForSemaphore : ℕ → Thread → Bool
-waitsForSemaphore i r = r .live && onSemaphore i (r .condition)
+abbrev pub idsIn : Class → ℕ
+idsIn ofSemaphores = semaphoreCount
+idsIn ofEvents = eventCount
 
-abbrev pub onEvent : ℕ → Condition → Bool
-onEvent i Ready = false
-onEvent i Asleep = false
-onEvent i (ForSemaphore j) = false
-onEvent i (ForEvent j) = eqb j i
-onEvent i (ForMessage mask) = false
+abbrev pub onObject : Class → ℕ → Condition → Bool
+onObject class i Ready = false
+onObject class i Asleep = false
+onObject ofSemaphores i (ForSemaphore j) = eqb j i
+onObject ofEvents i (ForSemaphore j) = false
+onObject ofSemaphores i (ForEvent j) = false
+onObject ofEvents i (ForEvent j) = eqb j i
+onObject class i (ForMessage mask) = false
 
--- a live thread that waits for event i
-abbrev pub waitsForEvent : ℕ → Thread → Bool
-waitsForEvent i r = r .live && onEvent i (r .condition)
+-- a live thread that waits for object i of this class
+abbrev pub waitsFor : Class → ℕ → Thread → Bool
+waitsFor class i r = r .live && onObject class i (r .condition)
 
 abbrev pub timedFor : Condition → ℕ → Bool
 timedFor Ready ticks = false

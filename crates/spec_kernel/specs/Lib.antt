@@ -1,4 +1,5 @@
 pub mod Conditions
+pub mod Sizes
 pub mod Records
 pub mod Places
 pub mod Channels

@@ -13,25 +13,27 @@ use Rattle.spec_kernel.specs.declared.records.Thread.{Thread}
 use Rattle.spec_kernel.specs.declared.records.Message.{Message}
 use Rattle.spec_kernel.specs.declared.records.Kernel.{Kernel}
 use Rattle.spec_kernel.specs.Records.{thread, message}
+use Rattle.spec_kernel.specs.Conditions.{Class, ofSemaphores, ofEvents}
 
--- the homes: a priority's ready list, a semaphore's queue, an event's queue, and none
+-- A home is a class and an id in it: the ready lists by priority, the semaphores' queues, the events' queues; and none.
 abbrev pub readyHome : ℕ → ℕ
 readyHome p = p
 
-abbrev pub semaphoreHome : ℕ → ℕ
-semaphoreHome i = 256 + i
+abbrev pub classNumber : Class → ℕ
+classNumber ofSemaphores = 1
+classNumber ofEvents = 2
 
-abbrev pub eventHome : ℕ → ℕ
-eventHome i = 512 + i
+abbrev pub home : Class → ℕ → ℕ
+home class i = classNumber class * 256 + i
 
 abbrev pub nowhere : ℕ
-nowhere = 1024
+nowhere = 4 * 256
 
 abbrev pub homeFor : Condition → ℕ → ℕ
 homeFor Ready priority = readyHome priority
 homeFor Asleep priority = nowhere
-homeFor (ForSemaphore i) priority = semaphoreHome i
-homeFor (ForEvent i) priority = eventHome i
+homeFor (ForSemaphore i) priority = home ofSemaphores i
+homeFor (ForEvent i) priority = home ofEvents i
 homeFor (ForMessage mask) priority = nowhere
 
 -- Where a thread stands: in its priority's list, in the queue of the semaphore or event it waits for, or nowhere [01, state 1.2, 1.3].
@@ -53,12 +55,15 @@ atHome k h = keep (λ t. eqb (homeOf (thread k t)) h) (items (k .places))
 abbrev pub readyList : Kernel → ℕ → List ℕ
 readyList k priority = atHome k (readyHome priority)
 
--- a semaphore's queue, and an event's
+-- an object's queue: a semaphore's, and an event's
+abbrev pub queueOf : Class → Kernel → ℕ → List ℕ
+queueOf class k i = atHome k (home class i)
+
 abbrev pub semaphoreQueue : Kernel → ℕ → List ℕ
-semaphoreQueue k i = atHome k (semaphoreHome i)
+semaphoreQueue = queueOf ofSemaphores
 
 abbrev pub eventQueue : Kernel → ℕ → List ℕ
-eventQueue k i = atHome k (eventHome i)
+eventQueue = queueOf ofEvents
 
 -- the time queue
 abbrev pub timeQueue : Kernel → List ℕ

@@ -3,6 +3,7 @@ use Prim.Native.Nat.{ℕ}
 use mathlib.Core.Bool.{true, false}
 use mathlib.Core.List.{[]}
 use lib.ListN.{getD, replicate}
+use Rattle.spec_kernel.specs.Sizes.{threadCount, semaphoreCount, eventCount, messageCount}
 use Rattle.base_queue.specs.Queues.{pack}
 use Rattle.spec_kernel.specs.declared.records.Condition.the-variants.{Ready}
 use Rattle.spec_kernel.specs.declared.records.Wake.{Wake}
@@ -47,10 +48,10 @@ freshEvent = record { any = true; mask = 0; values = 0 }
 unfoldable pub fresh : Kernel
 fresh =
     record {
-      threads = replicate 32 noThread;
-      semaphores = replicate 16 noSemaphore;
-      events = replicate 8 freshEvent;
-      messages = replicate 64 noMessage;
+      threads = replicate threadCount noThread;
+      semaphores = replicate semaphoreCount noSemaphore;
+      events = replicate eventCount freshEvent;
+      messages = replicate messageCount noMessage;
       places = pack [];
       time = pack [];
       posted = pack [];

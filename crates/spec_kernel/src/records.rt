@@ -1,4 +1,5 @@
 // Document 01's records and the state that holds them.
+use crate::sizes;
 use base_queue::Queue;
 
 // What a thread does: it is ready, asleep, or waits for a semaphore, an event, or a message on the masked channels.
@@ -62,10 +63,10 @@ pub struct Message {
 }
 
 pub struct Kernel {
-    pub threads: [Thread; 32],
-    pub semaphores: [Semaphore; 16],
-    pub events: [Event; 8],
-    pub messages: [Message; 64],
+    pub threads: [Thread; sizes::THREADS],
+    pub semaphores: [Semaphore; sizes::SEMAPHORES],
+    pub events: [Event; sizes::EVENTS],
+    pub messages: [Message; sizes::MESSAGES],
     pub places: Queue,
     pub time: Queue,
     pub posted: Queue,

@@ -5,6 +5,7 @@ use Prim.Native.Nat.{ℕ, _<_}
 use lib.ListN.{length}
 use Rattle.spec_kernel.specs.declared.records.Message.{Message}
 use Rattle.spec_kernel.specs.declared.records.Kernel.{Kernel}
+use Rattle.spec_kernel.specs.Sizes.{messageCount}
 use Rattle.spec_kernel.specs.Records.{message, noMessage}
 use Rattle.spec_moves.specs.Standing.{postsOf}
 use Rattle.spec_moves.proofs.Posts.{repost-same, repost-other}
@@ -20,7 +21,8 @@ pub record MadeMessage (m : ℕ) (r : Message) (k k′ : Kernel) : Type 0 where
   pub others : OtherMessages m k k′
   pub only : OnlyMessages k k′
 
-make-message : (k : Kernel) (m : ℕ) (r : Message) → length (k .messages) ≡ 64 → m < 64 → MadeMessage m r k (moveMessage m r k)
+make-message : (k : Kernel) (m : ℕ) (r : Message) → length (k .messages) ≡ messageCount → m < messageCount
+    → MadeMessage m r k (moveMessage m r k)
 make-message k m r e b =
     record {
       made = repost-same (postsOf k) m r e b;
@@ -34,15 +36,15 @@ make-message k m r e b =
           };
     }
 
-module _ (k : Kernel) (c : Call) (e : length (k .messages) ≡ 64) where
+module _ (k : Kernel) (c : Call) (e : length (k .messages) ≡ messageCount) where
   -- A new message belongs to its creator, who holds it and is its sender [01, calls: Message 1; state 6.4].
-  pub create-message-makes : freeMessage k < 64
+  pub create-message-makes : freeMessage k < messageCount
       → MadeMessage (freeMessage k)
       (record { live = true; owner = k .runner; sender = k .runner; kind = c .b; size = c .c; address = c .d; channel = 0 }) k
       (createMessage k c)
   unfolding createMessage
   create-message-makes b = make-message k (freeMessage k) _ e b
 
-  pub destroy-message-clears : c .a < 64 → MadeMessage (c .a) noMessage k (destroyMessage k c)
+  pub destroy-message-clears : c .a < messageCount → MadeMessage (c .a) noMessage k (destroyMessage k c)
   unfolding destroyMessage
   destroy-message-clears b = make-message k (c .a) noMessage e b

@@ -17,6 +17,7 @@ use Rattle.spec_kernel.specs.declared.records.Condition.the-variants.{Ready, As
 use Rattle.spec_kernel.specs.declared.records.Wake.{Wake}
 use Rattle.spec_kernel.specs.declared.records.Message.{Message}
 use Rattle.spec_kernel.specs.declared.records.Kernel.{Kernel}
+use Rattle.spec_kernel.specs.Sizes.{messageCount}
 use Rattle.spec_kernel.specs.Records.{thread, message}
 use Rattle.spec_kernel.specs.Conditions.{readyFor, masks, awaits}
 use Rattle.spec_kernel.specs.Places.{nowhere, isQueued, streamOf, onChannel, channel}
@@ -121,7 +122,8 @@ module _ (k : Kernel) (F : Filed (postsOf k)) (m : ℕ) where
   held-absent e u d = keep-absent (λ n. onChannel u d (message k n)) (items (k .posted)) m (F .placed m ∙ rw e)
 
   -- who comes to be held is out of every channel
-  held-leaves : m < 64 → (r : Message) → r .channel ≡ 0 → (u d : ℕ) → 0 < d → channel (moveMessage m r k) u d ≡ without m (channel k u d)
+  held-leaves : m < messageCount → (r : Message) → r .channel ≡ 0 → (u d : ℕ) → 0 < d
+      → channel (moveMessage m r k) u d ≡ without m (channel k u d)
   held-leaves id r h u d b = repost-leaves-channel (postsOf k) m r F id u d (elsewhere r u d (λ _ z. omega arith))
 
 -- nothing but messages changes
@@ -218,7 +220,7 @@ module _ (k : Kernel) (F : Filed (postsOf k)) (call : Call) (live : message k (c
   abbrev m : ℕ
   m = call .a
 
-  id : m < 64
+  id : m < messageCount
   id = message-id F m live
 
   pub post-appends : 0 < call .c → awaits (thread k (call .b) .condition) (call .c) ≡ false

@@ -9,7 +9,7 @@ use lib.ListN.{length, take, drop, getD, List·getD-eq-default}
 use borrow.Author.Tests.{lt-ltb, le-ltb}
 use Rattle.base_queue.specs.declared.Queue.{Queue}
 use Rattle.base_queue.specs.Lists.{without}
-use Rattle.base_queue.specs.Queues.{items, pack, roomFor}
+use Rattle.base_queue.specs.Queues.{capacity, items, pack, roomFor}
 use Rattle.base_queue.specs.Tables.{moved, placeBehind}
 use Rattle.base_queue.proofs.Lists.{rest-next, rest-end}
 use Rattle.base_queue.proofs.Queues.{items-pack, length-items, sized-items}
@@ -27,10 +27,10 @@ placeAbove key rank l = placeBehind (λ u. ltb rank (key u)) l
 -- a loop that looks for it among the first n of a store, at place i: it is not among the first i
 abbrev pub Seek : (ℕ → ℕ) → ℕ → List ℕ → ℕ → ℕ → Type 0
 Seek key rank at n i =
-    (length at ≡ 64) × (n ≤ 64) × (i ≤ n) × (placeAbove key rank (take n at) ≡ i + placeAbove key rank (drop i (take n at)))
+    (length at ≡ capacity) × (n ≤ capacity) × (i ≤ n) × (placeAbove key rank (take n at) ≡ i + placeAbove key rank (drop i (take n at)))
 
 module _ (key : ℕ → ℕ) (rank : ℕ) (q : Queue) (n : ℕ) (s : n ≡ length (items q)) where
-  pub seek-starts : length (q .at) ≡ 64 → Seek key rank (q .at) n 0
+  pub seek-starts : length (q .at) ≡ capacity → Seek key rank (q .at) n 0
   seek-starts e = (e, omega (arith, length-items q e), omega arith, omega arith)
 
   module _ (i : ℕ) (w : Seek key rank (q .at) n i) where

@@ -1,3 +1,4 @@
+pub mod Firsts
 pub mod Joins
 pub mod Rejoined
 pub mod Posts

@@ -14,6 +14,7 @@ use Rattle.base_queue.specs.Queues.{items}
 use Rattle.base_queue.proofs.Counts.{same}
 use Rattle.spec_kernel.specs.declared.records.Message.{Message}
 use Rattle.spec_moves.specs.declared.parts.Posts.{Posts}
+use Rattle.spec_kernel.specs.Sizes.{messageCount}
 use Rattle.spec_kernel.specs.Records.{noMessage}
 use Rattle.spec_kernel.specs.Places.{isQueued, streamOf, onChannel}
 use Rattle.spec_moves.specs.Moves.{rejoined, postAfter, repost}
@@ -40,21 +41,23 @@ module _ (q : Posts) (m : ℕ) (r : Message) where
   abbrev newPosts : Posts
   newPosts = record { records = set (q .records) m r; posted = rejoined (isQueued r) (postAfter (q .records) r) m (q .posted) }
 
-  moves : m < 64 → repost m r q ≡ newPosts
+  moves : m < messageCount → repost m r q ≡ newPosts
   unfolding repost
-  moves h = rw (lt-ltb m 64 h)
+  moves h = rw (lt-ltb m messageCount h)
 
   -- an id too large moves no message
-  pub repost-past : 64 ≤ m → repost m r q ≡ q
+  pub repost-past : messageCount ≤ m → repost m r q ≡ q
   unfolding repost
-  repost-past h = rw (le-ltb m 64 h)
+  repost-past h = rw (le-ltb m messageCount h)
 
   -- what holds of the state moved, and of the state as it was, holds after
-  either : (P : Posts → Type 0) → (m < 64 → P newPosts) → P q → P (repost m r q)
-  either P f g = cases (ltb m 64) (λ e. rw (moves (ltb-true m 64 e)) (f (ltb-true m 64 e))) (λ e. rw (repost-past (ltb-false m 64 e)) g)
+  either : (P : Posts → Type 0) → (m < messageCount → P newPosts) → P q → P (repost m r q)
+  either P f g =
+      cases (ltb m messageCount) (λ e. rw (moves (ltb-true m messageCount e)) (f (ltb-true m messageCount e)))
+      (λ e. rw (repost-past (ltb-false m messageCount e)) g)
 
   -- the message has its record
-  pub repost-same : length (q .records) ≡ 64 → m < 64 → messageIn (repost m r q) m ≡ r
+  pub repost-same : length (q .records) ≡ messageCount → m < messageCount → messageIn (repost m r q) m ≡ r
   repost-same e h = rw (moves h) (getD-set-same (q .records) m r noMessage (omega arith))
 
   -- and every other message has the record that it had
@@ -75,7 +78,7 @@ module _ (q : Posts) (F : Filed q) where
   table : Table noMessage isQueued streamOf (q .records) (q .posted)
   table = record { out = refl; few = omega (arith, F .count); tidy = F .tidy; placed = F .placed; ordered = F .inStream }
 
-  inside : {m : ℕ} → m < 64 → m < length (q .records)
+  inside : {m : ℕ} → m < messageCount → m < length (q .records)
   inside h = omega (arith, F .count)
 
 module _ (q : Posts) (m : ℕ) (r : Message) (F : Filed q) where
@@ -87,7 +90,7 @@ module _ (q : Posts) (m : ℕ) (r : Message) (F : Filed q) where
       record { count = length-set (q .records) m r ∙ F .count; tidy = T .tidy; placed = T .placed; inStream = T .ordered })
       F
 
-  module _ (h : m < 64) where
+  module _ (h : m < messageCount) where
     -- a message that is queued comes last in its stream: the old run without it, then it
     pub repost-joins : isQueued r ≡ true → streamIn (repost m r q) (streamOf r) ≡ without m (streamIn q (streamOf r)) ++ m ∷ []
     repost-joins e =

@@ -11,7 +11,7 @@ use borrow.Author.Tests.{eqb-true, eqb-false, ne-eqb, lt-ltb, le-ltb}
 use borrow.Table.Steps.{cases}
 use Rattle.base_queue.specs.declared.Queue.{Queue}
 use Rattle.base_queue.specs.Lists.{keep, isNot, without, count, behind, Ordered}
-use Rattle.base_queue.specs.Queues.{items, Tidy}
+use Rattle.base_queue.specs.Queues.{capacity, items, Tidy}
 use Rattle.base_queue.specs.Tables.{one, Placed, moved}
 use Rattle.base_queue.proofs.Queues.{items-pack, tidy-pack}
 use Rattle.base_queue.proofs.Counts.{same, kept, keep-same, keep-without, keep-past}
@@ -52,10 +52,10 @@ module _ (stays : Bool) (after : ℕ → Bool) (x : ℕ) (q : Queue) where
 abbrev pub said : {A B : Type 0} → A → (A → B) → List A → ℕ → B
 said d g records u = g (getD records u d)
 
--- at most 64 records: those that say that they belong stand there once, in the order of their keys
+-- no more records than places: those that say that they belong stand there once, in the order of their keys
 pub record Table {A : Type 0} (d : A) (belongs : A → Bool) (key : A → ℕ) (records : List A) (q : Queue) : Type 0 where
   pub out : belongs d ≡ false
-  pub few : length records ≤ 64
+  pub few : length records ≤ capacity
   pub tidy : Tidy q
   pub placed : Placed (said d belongs records) (items q)
   pub ordered : Ordered (said d key records) (items q)
@@ -72,14 +72,14 @@ module _ {A : Type 0} {d : A} {belongs : A → Bool} {key : A → ℕ} {records 
   room : hasRoom x (items q) ≡ true
   room =
       let past = placed-past (said d belongs records) (items q) (length records) nobody (T .placed) in
-      lt-ltb (length (without x (items q))) 64 (omega (arith, without-short (length records) x (items q) once past h))
+      lt-ltb (length (without x (items q))) capacity (omega (arith, without-short (length records) x (items q) once past h))
 
   -- x gets the record r
   module _ (r : A) where
     abbrev now : List A
     now = set records x r
 
-    now-few : length now ≤ 64
+    now-few : length now ≤ capacity
     now-few = rw length-set (T .few)
 
     -- that is its record

@@ -17,6 +17,7 @@ use Rattle.spec_kernel.specs.declared.records.Condition.{Condition}
 use Rattle.spec_kernel.specs.declared.records.Condition.the-variants.{Ready, Asleep, ForSemaphore, ForEvent, ForMessage}
 use Rattle.spec_kernel.specs.declared.records.Thread.{Thread}
 use Rattle.spec_moves.specs.declared.parts.Threads.{Threads}
+use Rattle.spec_kernel.specs.Sizes.{threadCount}
 use Rattle.spec_kernel.specs.Records.{noThread}
 use Rattle.spec_kernel.specs.Conditions.{isReady, readyFor}
 use Rattle.spec_kernel.specs.Places.{nowhere, homeFor, homeOf, hasHome, rankOf}
@@ -77,21 +78,23 @@ module _ (p : Threads) (t : ℕ) (r : Thread) where
   newThreads =
       record { records = set (p .records) t r; places = rejoined (hasHome r) (ranksAfter (p .records) r) t (p .places); time = newTime }
 
-  moves : t < 32 → relocate t r p ≡ newThreads
+  moves : t < threadCount → relocate t r p ≡ newThreads
   unfolding relocate
-  moves h = rw (lt-ltb t 32 h)
+  moves h = rw (lt-ltb t threadCount h)
 
   -- an id too large moves nobody
-  pub relocate-past : 32 ≤ t → relocate t r p ≡ p
+  pub relocate-past : threadCount ≤ t → relocate t r p ≡ p
   unfolding relocate
-  relocate-past h = rw (le-ltb t 32 h)
+  relocate-past h = rw (le-ltb t threadCount h)
 
   -- what holds of the state moved, and of the state as it was, holds after
-  either : (P : Threads → Type 0) → (t < 32 → P newThreads) → P p → P (relocate t r p)
-  either P f g = cases (ltb t 32) (λ e. rw (moves (ltb-true t 32 e)) (f (ltb-true t 32 e))) (λ e. rw (relocate-past (ltb-false t 32 e)) g)
+  either : (P : Threads → Type 0) → (t < threadCount → P newThreads) → P p → P (relocate t r p)
+  either P f g =
+      cases (ltb t threadCount) (λ e. rw (moves (ltb-true t threadCount e)) (f (ltb-true t threadCount e)))
+      (λ e. rw (relocate-past (ltb-false t threadCount e)) g)
 
   -- the thread has its record
-  pub relocate-same : length (p .records) ≡ 32 → t < 32 → threadIn (relocate t r p) t ≡ r
+  pub relocate-same : length (p .records) ≡ threadCount → t < threadCount → threadIn (relocate t r p) t ≡ r
   relocate-same e h = rw (moves h) (getD-set-same (p .records) t r noThread (omega arith))
 
   -- and every other thread has the record that it had
@@ -129,7 +132,7 @@ TimeTable records q = Table noThread hasTime timeOf records q
 
 module _ (p : Threads) where
   -- where both keep their rules, everybody stands
-  standing : length (p .records) ≡ 32 → PlacesTable (p .records) (p .places) → TimeTable (p .records) (p .time) → Standing p
+  standing : length (p .records) ≡ threadCount → PlacesTable (p .records) (p .places) → TimeTable (p .records) (p .time) → Standing p
   standing e P T = record {
     count = e;
     tidyPlaces = P .tidy;
@@ -147,12 +150,12 @@ module _ (p : Threads) where
     time-table : TimeTable (p .records) (p .time)
     time-table = record { out = refl; few = omega (arith, S .count); tidy = S .tidyTime; placed = S .timed; ordered = S .inTime }
 
-    inside : {t : ℕ} → t < 32 → t < length (p .records)
+    inside : {t : ℕ} → t < threadCount → t < length (p .records)
     inside h = omega (arith, S .count)
 
 module _ (p : Threads) (t : ℕ) (r : Thread) (S : Standing p) where
   -- the time queue keeps its rules where the thread moves in it, and where it stays
-  time-moved : t < 32 → TimeTable (set (p .records) t r) (newTime p t r)
+  time-moved : t < threadCount → TimeTable (set (p .records) t r) (newTime p t r)
   time-moved h =
       cases (eqb (threadIn p t .ticks) (r .ticks))
       (λ e. let z = eqb-true (threadIn p t .ticks) (r .ticks) e in rw e (table-stays (time-table p S) t (inside p S h) r (rw z) (sym z)))
@@ -165,7 +168,7 @@ module _ (p : Threads) (t : ℕ) (r : Thread) (S : Standing p) where
       (λ h. standing (newThreads p t r) (length-set (p .records) t r ∙ S .count) (table-moved (places-table p S) t (inside p S h) r)
       (time-moved h)) S
 
-  module _ (h : t < 32) where
+  module _ (h : t < threadCount) where
     -- it joins its list or queue behind its equals
     pub relocate-joins : hasHome r ≡ true
         → atHomeIn (relocate t r p) (homeOf r) ≡ behind (ranksAfter (p .records) r) t (without t (atHomeIn p (homeOf r)))

@@ -6,18 +6,19 @@ use lib.Dec.{eqb, ltb}
 use lib.ListN.{length, getD, set}
 use Rattle.base_queue.specs.declared.Queue.{Queue}
 use Rattle.base_queue.specs.Lists.{without}
-use Rattle.base_queue.specs.Queues.{items, pack}
+use Rattle.base_queue.specs.Queues.{capacity, items, pack}
 use Rattle.base_queue.specs.Tables.{moved}
 use Rattle.spec_kernel.specs.declared.records.Thread.{Thread}
 use Rattle.spec_kernel.specs.declared.records.Message.{Message}
 use Rattle.spec_moves.specs.declared.parts.Threads.{Threads}
 use Rattle.spec_moves.specs.declared.parts.Posts.{Posts}
+use Rattle.spec_kernel.specs.Sizes.{threadCount, messageCount}
 use Rattle.spec_kernel.specs.Records.{noThread, noMessage}
 use Rattle.spec_kernel.specs.Places.{hasHome, rankOf, isQueued, streamOf}
 
--- a queue of 64 places has room once x has left it
+-- a queue has room once x has left it
 abbrev pub hasRoom : ℕ → List ℕ → Bool
-hasRoom x l = ltb (length (without x l)) 64
+hasRoom x l = ltb (length (without x l)) capacity
 
 -- x out of the queue, and where it stays behind its equals
 abbrev pub rejoined : Bool → (ℕ → Bool) → ℕ → Queue → Queue
@@ -37,7 +38,7 @@ wakesAfter records r u = ltb (r .ticks) (getD records u noThread .ticks)
 -- it leaves and joins the time queue only where the ticks left differ. An id too large moves nobody.
 unfoldable pub relocate : ℕ → Thread → Threads → Threads
 relocate t r p =
-    cond (ltb t 32)
+    cond (ltb t threadCount)
     (record {
       records = set (p .records) t r;
       places = rejoined (hasHome r) (ranksAfter (p .records) r) t (p .places);
@@ -53,7 +54,7 @@ postAfter records r u = ltb (streamOf r) (streamOf (getD records u noMessage))
 -- Message m gets the record r, and joins the channel of r behind those that are there; where r is held it stands in none.
 unfoldable pub repost : ℕ → Message → Posts → Posts
 repost m r p =
-    cond (ltb m 64)
+    cond (ltb m messageCount)
     (record {
       records = set (p .records) m r;
       posted = rejoined (isQueued r) (postAfter (p .records) r) m (p .posted);

@@ -11,6 +11,7 @@ use Rattle.spec_kernel.specs.declared.records.Message.{Message}
 use Rattle.spec_kernel.specs.declared.records.Kernel.{Kernel}
 use Rattle.spec_moves.specs.declared.parts.Threads.{Threads}
 use Rattle.spec_moves.specs.declared.parts.Posts.{Posts}
+use Rattle.spec_kernel.specs.Sizes.{threadCount, messageCount}
 use Rattle.spec_kernel.specs.Records.{noMessage}
 use Rattle.spec_kernel.specs.Places.{homeOf, hasHome, rankOf, isQueued, streamOf}
 use Rattle.spec_moves.specs.Moves.{threadIn}
@@ -31,7 +32,7 @@ atHomeIn p h = keep (λ t. eqb (homeOf (threadIn p t)) h) (items (p .places))
 
 -- each thread stands where its record says, once, in order, and the unused store is 0
 pub record Standing (p : Threads) : Type 0 where
-  pub count : length (p .records) ≡ 32
+  pub count : length (p .records) ≡ threadCount
   pub tidyPlaces : Tidy (p .places)
   pub tidyTime : Tidy (p .time)
   pub placed : Placed (λ t. hasHome (threadIn p t)) (items (p .places))
@@ -41,7 +42,7 @@ pub record Standing (p : Threads) : Type 0 where
 
 -- each message likewise
 pub record Filed (p : Posts) : Type 0 where
-  pub count : length (p .records) ≡ 64
+  pub count : length (p .records) ≡ messageCount
   pub tidy : Tidy (p .posted)
   pub placed : Placed (λ m. isQueued (messageIn p m)) (items (p .posted))
   pub inStream : Ordered (λ m. streamOf (messageIn p m)) (items (p .posted))

@@ -10,7 +10,7 @@ use borrow.Author.Tests.{ltb-true, ltb-false}
 use borrow.Table.Steps.{cases}
 use Rattle.base_queue.specs.declared.Queue.{Queue}
 use Rattle.base_queue.specs.Lists.{keep}
-use Rattle.base_queue.specs.Queues.{items, pack}
+use Rattle.base_queue.specs.Queues.{capacity, items, pack}
 use Rattle.base_rows.specs.Rows.{usedBy, rowFrom}
 use Rattle.base_rows.proofs.Fitted.{Bytes, drop-bytes, row-at}
 use Rattle.spec_kernel.specs.declared.records.Thread.{Thread}
@@ -209,11 +209,11 @@ merge-short : (n : ℕ) (at l : List ℕ) → length (merge n at l) ≤ n
 merge-short zero at l = omega arith
 merge-short (suc n) at l = place-short (getD at 0 255) l n (merge n (drop 1 at)) (merge-short n (drop 1 at))
 
-pack-full : (l : List ℕ) → length l ≤ 64 → length (pack l .at) ≡ 64
+pack-full : (l : List ℕ) → length l ≤ capacity → length (pack l .at) ≡ capacity
 pack-full l h = simp (length-append, length-replicate) (omega arith)
 
-pub back-full : (out at : List ℕ) (q : Queue) → length (putBackAll out at q .at) ≡ 64
+pub back-full : (out at : List ℕ) (q : Queue) → length (putBackAll out at q .at) ≡ capacity
 unfolding putBackAll
 back-full out at q =
     let l : List ℕ = keep (λ x. eqb (getD out x 0) 0) (items q) in
-    pack-full (merge 64 at l) (merge-short 64 at l)
+    pack-full (merge capacity at l) (merge-short capacity at l)

@@ -1,4 +1,4 @@
--- How long the sections of a note can be: every section is below 10,000 bytes, whatever the states.
+-- How long the sections of a note can be, whatever the states.
 use Prim.Native.Nat.{ℕ, zero, suc, _+_, _*_, _≤_, _<_}
 use mathlib.Core.Path.{_≡_, refl}
 use mathlib.Core.Bool.{Bool, true, false, cond}
@@ -12,15 +12,22 @@ use borrow.Table.Steps.{cases}
 use Rattle.base_queue.specs.Tables.{one}
 use Rattle.base_rows.specs.Rows.{flagsOf, bodyOf, sum}
 use Rattle.base_rows.proofs.Codec.{body-short}
+use Rattle.spec_kernel.specs.declared.records.Thread.{Thread}
+use Rattle.spec_kernel.specs.declared.records.Semaphore.{Semaphore}
+use Rattle.spec_kernel.specs.declared.records.Event.{Event}
+use Rattle.spec_kernel.specs.declared.records.Message.{Message}
 use Rattle.spec_kernel.specs.declared.records.Kernel.{Kernel}
-use Rattle.spec_kernel.specs.Records.{message}
+use Rattle.spec_kernel.specs.Sizes.{threadCount, semaphoreCount, eventCount, messageCount}
+use Rattle.spec_moves.specs.declared.parts.Threads.{Threads}
+use Rattle.spec_moves.specs.declared.parts.Posts.{Posts}
+use Rattle.spec_moves.specs.Standing.{threadsOf, postsOf, messageIn}
 use Rattle.spec_calls.specs.declared.call.Call.{Call}
 use Rattle.spec_refusals.specs.Refusals.{is}
 use Rattle.spec_notes.specs.Rows.{threadWidths, semaphoreWidths, eventWidths, messageWidths, schedulerWidths}
-use Rattle.spec_notes.specs.Touched.{touchedThread, touchedSemaphore, touchedEvent, touchedMessage}
 use Rattle.spec_notes.specs.Predicted.{predictedMessage}
-use Rattle.spec_notes.specs.Sections.{entriesFrom, threadEntry, semaphoreEntry, eventEntry, messageEntry, schedulerSection}
-use Rattle.spec_notes.specs.Sections.{threadsSection, semaphoresSection, eventsSection, messagesSection}
+use Rattle.spec_notes.specs.Sections.{entriesFrom, threadEntry, threadEntries, threadsSection, semaphoreEntry, semaphoreEntries}
+use Rattle.spec_notes.specs.Sections.{semaphoresSection, eventEntry, eventEntries, bitNoted, eventsSection, messageEntry}
+use Rattle.spec_notes.specs.Sections.{messageEntries, messagesSection, unlessPredicted, levelsNoted, schedulerSection}
 use Rattle.spec_notes.specs.Counts.{countFrom}
 
 -- ---- entries
@@ -53,27 +60,26 @@ module _ (touched differs : ℕ → Bool) (entry : ℕ → List ℕ) (w : ℕ) w
     pub entries-but-one : (i n : ℕ) → length (entriesFrom touched entry i n) ≤ w * countFrom differs i n + w
     entries-but-one i n = entries-either i n .1
 
+-- nobody is touched
+pub entries-none : (touched : ℕ → Bool) (entry : ℕ → List ℕ) (i n : ℕ) → ((j : ℕ) → i ≤ j → j < i + n → touched j ≡ true → ⊥)
+    → entriesFrom touched entry i n ≡ []
+entries-none touched entry i zero h = refl
+entries-none touched entry i (suc n) h =
+    let r = entries-none touched entry (suc i) n (λ j a b. h j (omega arith) (omega arith)) in
+    cases (touched i) (λ e. absurd (h i (omega arith) (omega arith) e)) (λ e. rw e r)
+
 -- none passes
 pub count-none : (i n : ℕ) → countFrom (λ _. false) i n ≡ 0
 count-none i zero = refl
 count-none i (suc n) = rw (count-none (suc i) n)
 
 -- v bytes each
-entries-crude : (touched : ℕ → Bool) (entry : ℕ → List ℕ) (v : ℕ) → ((i : ℕ) → length (entry i) ≤ v)
+entries-each : (touched : ℕ → Bool) (entry : ℕ → List ℕ) (v : ℕ) → ((i : ℕ) → length (entry i) ≤ v)
     → (i n : ℕ) → length (entriesFrom touched entry i n) ≤ v * n
-entries-crude touched entry v h i n =
+entries-each touched entry v h i n =
     let s = entries-short touched (λ _. false) entry 0 v (λ i _. omega (arith, h i)) i n in
     let z = zero-mul (countFrom (λ _. false) i n) in
     omega arith
-
-entries-below : (touched : ℕ → Bool) (entry : ℕ → List ℕ) (v n b : ℕ) → ((i : ℕ) → length (entry i) ≤ v) → v * n < b
-    → length (entriesFrom touched entry 0 n) < b
-entries-below touched entry v n b f g = omega (arith, entries-crude touched entry v f 0 n)
-
--- behind h other bytes
-entries-behind : (touched : ℕ → Bool) (entry : ℕ → List ℕ) (v n b h : ℕ) → ((i : ℕ) → length (entry i) ≤ v) → h + v * n < b
-    → h + length (entriesFrom touched entry 0 n) < b
-entries-behind touched entry v n b h f g = omega (arith, entries-crude touched entry v f 0 n)
 
 -- ---- one entry
 -- the first field is as predicted
@@ -91,54 +97,76 @@ body-three n ws os ps h = omega (arith, body-short ws os ps)
 body-live : (n w o p : ℕ) (ws os ps : List ℕ) → o ≡ p → 2 + sum ws ≤ n → suc (suc (length (bodyOf (w ∷ ws) (o ∷ os) (p ∷ ps)))) ≤ n
 body-live n w o p ws os ps e h = omega (arith, body-first w o p ws os ps e)
 
-module _ (k : Kernel) (c : Call) (k′ : Kernel) where
-  pub thread-entry : (t : ℕ) → length (threadEntry k c k′ t) ≤ 15
-  unfolding threadEntry sum
-  thread-entry t = body-three 15 threadWidths _ _ (omega arith)
+module _ (c : Call) where
+  module _ (old : Threads) (new : List Thread) where
+    pub thread-entry : (t : ℕ) → length (threadEntry c old new t) ≤ 15
+    unfolding sum
+    thread-entry t = body-three 15 threadWidths _ _ (omega arith)
 
-  pub semaphore-entry : (i : ℕ) → length (semaphoreEntry k c k′ i) ≤ 15
-  unfolding semaphoreEntry sum
-  semaphore-entry i = body-two 15 semaphoreWidths _ _ (omega arith)
+    pub threads-run : (runner i n : ℕ) → length (threadEntries c runner old new i n) ≤ 15 * n
+    threads-run runner = entries-each _ (threadEntry c old new) 15 thread-entry
 
-  pub event-entry : (i : ℕ) → length (eventEntry k c k′ i) ≤ 11
-  unfolding eventEntry sum
-  event-entry i = body-two 11 eventWidths _ _ (omega arith)
+  module _ (old new : List Semaphore) where
+    pub semaphore-entry : (i : ℕ) → length (semaphoreEntry c old new i) ≤ 15
+    unfolding sum
+    semaphore-entry i = body-two 15 semaphoreWidths _ _ (omega arith)
 
-  message-entry : (m : ℕ) → length (messageEntry k c k′ m) ≤ 17
-  unfolding messageEntry sum
-  message-entry m = body-two 17 messageWidths _ _ (omega arith)
+    pub semaphores-run : (i n : ℕ) → length (semaphoreEntries c old new i n) ≤ 15 * n
+    semaphores-run = entries-each _ (semaphoreEntry c old new) 15 semaphore-entry
 
-  -- with `live` as predicted
-  pub message-entry-live : (m : ℕ) → one (message k m .live) ≡ cond (is c 24) 0 1 → length (messageEntry k c k′ m) ≤ 16
-  unfolding messageEntry predictedMessage sum
-  message-entry-live m e = body-live 16 1 _ _ (1 ∷ 1 ∷ 2 ∷ 4 ∷ 4 ∷ 1 ∷ 1 ∷ []) _ _ e (omega arith)
+  module _ (runner : ℕ) (old : Posts) (new : List Message) where
+    message-entry : (m : ℕ) → length (messageEntry c runner old new m) ≤ 17
+    unfolding sum
+    message-entry m = body-two 17 messageWidths _ _ (omega arith)
 
-  -- ---- a section
-  pub scheduler-short : length (schedulerSection k c k′) ≤ 4
-  unfolding schedulerSection sum
-  scheduler-short = short _ _
+    -- with `live` as predicted
+    pub message-entry-live : (m : ℕ) → one (messageIn old m .live) ≡ cond (is c 24) 0 1 → length (messageEntry c runner old new m) ≤ 16
+    unfolding predictedMessage sum
+    message-entry-live m e = body-live 16 1 _ _ (1 ∷ 1 ∷ 2 ∷ 4 ∷ 4 ∷ 1 ∷ 1 ∷ []) _ _ e (omega arith)
+
+    pub messages-run : (i n : ℕ) → length (messageEntries c runner old new i n) ≤ 17 * n
+    messages-run = entries-each _ (messageEntry c runner old new) 17 message-entry
+
+  -- ---- the levels and the runner
+  pub levels-short : (u r t u′ r′ t′ : ℕ) → length (levelsNoted c u r t u′ r′ t′) ≤ 4
+  unfolding sum
+  levels-short u r t u′ r′ t′ = short _ _
     where
-      short : (old predicted : List ℕ)
-          → length (cond (eqb (flagsOf old predicted) 0) [] (flagsOf old predicted ∷ bodyOf schedulerWidths old predicted)) ≤ 4
+      short : (old predicted : List ℕ) → length (unlessPredicted schedulerWidths old predicted) ≤ 4
       short old predicted =
           cases (eqb (flagsOf old predicted) 0) (λ e. rw e (omega arith))
           (λ e. rw e (omega (arith, body-short schedulerWidths old predicted)))
 
-  pub threads-below : length (threadsSection k c k′) < 10000
+module _ (old new : List Event) where
+  pub event-entry : (i : ℕ) → length (eventEntry old new i) ≤ 11
+  unfolding sum
+  event-entry i = body-two 11 eventWidths _ _ (omega arith)
+
+  pub events-run : (i n : ℕ) → length (eventEntries old new i n) ≤ 11 * n
+  events-run = entries-each _ (eventEntry old new) 11 event-entry
+
+pub bit-short : (old new : ℕ) → length (bitNoted old new) ≤ 1
+bit-short old new = cases (eqb old new) (λ e. rw e (omega arith)) (λ e. rw e (omega arith))
+
+-- ---- a section
+module _ (k : Kernel) (c : Call) (k′ : Kernel) where
+  pub scheduler-short : length (schedulerSection k c k′) ≤ 4
+  unfolding schedulerSection
+  scheduler-short = levels-short c _ _ _ _ _ _
+
+  pub threads-below : length (threadsSection k c k′) ≤ 15 * threadCount
   unfolding threadsSection
-  threads-below = entries-below (touchedThread k c k′) (threadEntry k c k′) 15 32 10000 thread-entry (omega arith)
+  threads-below = threads-run c (threadsOf k) (k′ .threads) (k .runner) 0 threadCount
 
-  pub semaphores-below : length (semaphoresSection k c k′) < 10000
+  pub semaphores-below : length (semaphoresSection k c k′) ≤ 15 * semaphoreCount
   unfolding semaphoresSection
-  semaphores-below = entries-below (touchedSemaphore k c k′) (semaphoreEntry k c k′) 15 16 10000 semaphore-entry (omega arith)
+  semaphores-below = semaphores-run c (k .semaphores) (k′ .semaphores) 0 semaphoreCount
 
-  pub events-below : length (eventsSection k c k′) < 10000
+  pub events-below : length (eventsSection k c k′) ≤ 1 + 11 * eventCount
   unfolding eventsSection
   events-below =
-      let e : (h : ℕ) → h ≤ 1 → h + length (entriesFrom (touchedEvent k c k′) (eventEntry k c k′) 0 8) < 10000 =
-      λ h b. entries-behind (touchedEvent k c k′) (eventEntry k c k′) 11 8 10000 h event-entry (omega arith) in
-      rw length-append (cases (eqb (k .bits) (k′ .bits)) (λ b. rw b (e 0 (omega arith))) (λ b. rw b (e 1 (omega arith))))
+      rw length-append (omega (arith, bit-short (k .bits) (k′ .bits), events-run (k .events) (k′ .events) 0 eventCount))
 
-  pub messages-below : length (messagesSection k c k′) < 10000
+  pub messages-below : length (messagesSection k c k′) ≤ 17 * messageCount
   unfolding messagesSection
-  messages-below = entries-below (touchedMessage k c k′) (messageEntry k c k′) 17 64 10000 message-entry (omega arith)
+  messages-below = messages-run c (k′ .runner) (postsOf k) (k′ .messages) 0 messageCount

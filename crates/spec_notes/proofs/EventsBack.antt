@@ -1,5 +1,5 @@
 -- The events' section, read back: the bits and the events.
-use Prim.Native.Nat.{ℕ, suc, _≤_}
+use Prim.Native.Nat.{ℕ, suc, _≤_, _<_}
 use mathlib.Core.Path.{_≡_, refl, sym, ap, _∙_}
 use mathlib.Core.Bool.{Bool, false, not, cond}
 use mathlib.Core.List.{List, [], _∷_, _++_}
@@ -12,13 +12,14 @@ use borrow.Author.Tests.{eqb-true, eqb-false, ne-eqb, not-false}
 use borrow.Table.Steps.{cases}
 use Rattle.spec_kernel.specs.declared.records.Event.{Event}
 use Rattle.spec_kernel.specs.declared.records.Kernel.{Kernel}
+use Rattle.spec_kernel.specs.Sizes.{eventCount}
 use Rattle.spec_kernel.specs.Records.{event, noEvent}
 use Rattle.spec_rules.specs.Rules.{Sized}
 use Rattle.spec_calls.specs.declared.call.Call.{Call}
 use Rattle.spec_notes.specs.Rows.{eventRow, eventWidths}
 use Rattle.spec_notes.specs.Touched.{touchedEvent}
 use Rattle.spec_notes.specs.Predicted.{predictedEvent}
-use Rattle.spec_notes.specs.Sections.{entriesFrom, eventEntry, eventsSection}
+use Rattle.spec_notes.specs.Sections.{eventEntry, eventEntries, bitNoted, eventsSection}
 use Rattle.spec_notes.specs.Back.{readEvents, bitChanged, bitsBefore, eventsBefore}
 use Rattle.spec_notes.specs.Within.{Within}
 use Rattle.spec_notes.specs.LeftAlone.{LeftAlone}
@@ -30,8 +31,11 @@ module _ (k : Kernel) (c : Call) (k′ : Kernel) where
   abbrev touched : ℕ → Bool
   touched = touchedEvent k c k′
 
+  abbrev entry : ℕ → List ℕ
+  entry = eventEntry (k .events) (k′ .events)
+
   abbrev entries : ℕ → List ℕ
-  entries n = entriesFrom touched (eventEntry k c k′) 0 n
+  entries n = eventEntries (k .events) (k′ .events) 0 n
 
   -- a section tells whether a bit changed, and the entries come next
   abbrev Opening : List ℕ → ℕ → Type 0
@@ -39,17 +43,17 @@ module _ (k : Kernel) (c : Call) (k′ : Kernel) where
       (bitChanged s ≡ not (eqb (k .bits) (k′ .bits))) × (drop (cond (bitChanged s) 1 0) s ≡ entries n) × (length (entries n) ≤ length s)
 
   -- no id is 8
-  opens-at : (n : ℕ) → n ≤ 8 → Opening (cond (eqb (k .bits) (k′ .bits)) [] (8 ∷ []) ++ entries n) n
-  unfolding eventEntry
+  opens-at : (n : ℕ) → n ≤ 8 → Opening (bitNoted (k .bits) (k′ .bits) ++ entries n) n
+  unfolding touchedEvent
   opens-at n b =
       cases (eqb (k .bits) (k′ .bits))
-      (λ e. let below = first-below touched (eventEntry k c k′) (λ _. refl) 8 0 n (omega arith) (omega arith) in
+      (λ e. let below : getD (entries n) 0 0 < 8 = first-below touched entry (λ _. refl) 8 0 n (omega arith) (omega arith) in
       rw (e, ne-eqb (getD (entries n) 0 0) 8 (λ z. omega arith)) (refl, refl, le-refl _))
       (λ e. rw e (refl, refl, le-suc _))
 
-  opens : Opening (eventsSection k c k′) 8
+  opens : Opening (eventsSection k c k′) eventCount
   unfolding eventsSection
-  opens = opens-at 8 (omega arith)
+  opens = opens-at eventCount (omega arith)
 
   pub bits-back : LeftAlone k c k′ → bitsBefore c (k′ .bits) (eventsSection k c k′) ≡ k .bits
   unfolding bitsBefore
@@ -67,8 +71,8 @@ module _ (k : Kernel) (c : Call) (k′ : Kernel) where
     fits i = field (λ _. flag-below (event k i .any)) (field (λ _. W .mask i) (field (λ _. W .values i) (unused 5)))
 
     next : (n i : ℕ) (rest : List ℕ) (a : List Event)
-        → readEvents (suc n) (k′ .events) (eventEntry k c k′ i ++ rest) a ≡ readEvents n (k′ .events) rest (step i a)
-    unfolding readEvents eventEntry
+        → readEvents (suc n) (k′ .events) (entry i ++ rest) a ≡ readEvents n (k′ .events) rest (step i a)
+    unfolding readEvents
     next n i rest a = rw (rest-back (_ ∷ []) rest (fits i), row-back rest (fits i), event-back)
 
     module _ (Z : Sized k) (Z′ : Sized k′) where
@@ -77,10 +81,10 @@ module _ (k : Kernel) (c : Call) (k′ : Kernel) where
       untouched i h = sym (same-event (event k i) (event k′ i) (not-false _ h))
 
       pub events-back : eventsBefore (k′ .events) (eventsSection k c k′) ≡ k .events
-      unfolding eventsBefore readEvents eventEntry
+      unfolding eventsBefore readEvents touchedEvent
       events-back =
           ap (λ (s : List ℕ). readEvents (length (eventsSection k c k′)) (k′ .events) s (k′ .events)) (opens .1)
-          ∙ read-part (λ n. readEvents n (k′ .events)) touched (eventEntry k c k′) step (λ _. refl) (λ _. refl) (λ _ _. refl) next
+          ∙ read-part (λ n. readEvents n (k′ .events)) touched entry step (λ _. refl) (λ _. refl) (λ _ _. refl) next
           (λ a. a) step
-          (λ _ _. refl) _ 8 _ (opens .2)
-          ∙ records-back touched noEvent 8 (k .events) (k′ .events) (Z .events) (Z′ .events) (λ i _ e. untouched i e)
+          (λ _ _. refl) _ eventCount _ (opens .2)
+          ∙ records-back touched noEvent eventCount (k .events) (k′ .events) (Z .events) (Z′ .events) (λ i _ e. untouched i e)

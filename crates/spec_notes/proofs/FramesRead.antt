@@ -1,23 +1,22 @@
--- A note's frame reads back: its call record and its five sections; and the last note of a log is found.
+-- A note's frame reads back: its call record and its sections; and the last note of a log is found.
 use Prim.Native.Nat.{ℕ, _+_, _-_, _≤_, _<_}
-use mathlib.Core.Path.{_≡_, sym, _∙_}
+use mathlib.Core.Path.{_≡_, refl, sym, _∙_}
 use mathlib.Core.Bool.{true}
-use mathlib.Core.List.{List, _++_, append-assoc}
+use mathlib.Core.List.{List, [], _∷_, _++_, append-assoc}
 use native.Mathlib.Omega.{arith}
 use lib.ListN.{length, take, drop, length-append}
 use lib.Seq.{take-at, drop-at, drop-drop, take-append-seam, drop-append-seam}
-use borrow.Author.Tests.{eq-eqb, le-leb}
+use borrow.Author.Tests.{le-leb}
 use Rattle.base_bytes.specs.Bytes.{le, un}
 use Rattle.base_bytes.proofs.Numbers.{length-le, drop-le, un-le}
 use Rattle.spec_kernel.specs.declared.records.Kernel.{Kernel}
 use Rattle.spec_calls.specs.Calls.{callOf}
 use Rattle.spec_notes.specs.Sections.{schedulerSection, threadsSection, semaphoresSection, eventsSection, messagesSection}
-use Rattle.spec_notes.specs.Notes.{section, beforeLength, noteOf}
-use Rattle.spec_notes.specs.Frames.{sections, isWhole, firstSection, behindSection, framesFrom, framesOf}
+use Rattle.spec_notes.specs.Notes.{section, framed, sectionsOf, beforeLength, noteOf, leastNote}
+use Rattle.spec_notes.specs.Frames.{sections, isWhole, firstSection, behindSection, sectionsAt, areWhole, sectionBytes, framesOf}
 use Rattle.spec_notes.specs.Undo.{lastLength, hasLast, lastNote}
 use Rattle.spec_notes.proofs.EntriesShort.{scheduler-short, threads-below, semaphores-below, events-below, messages-below}
 use Rattle.spec_notes.proofs.Lengths.{note-length}
-use Rattle.spec_notes.proofs.WayBack.{sectionsOf}
 
 -- ---- one section
 module _ (s rest : List ℕ) (b : length s < 65536) where
@@ -42,54 +41,49 @@ module _ (s rest : List ℕ) (b : length s < 65536) where
   unfolding behindSection
   behind = rw (size, ← drop-drop (length s) 2 bytes, past) (drop-append-seam s rest)
 
--- ---- five sections and two bytes
-module _ (a b c d e end : List ℕ) (a′ : length a < 65536) (b′ : length b < 65536) (c′ : length c < 65536) (d′ : length d < 65536)
-    (e′ : length e < 65536) (end′ : length end ≡ 2) where
-  five : framesFrom (section a ++ (section b ++ (section c ++ (section d ++ (section e ++ end)))))
-      ≡ sections (record { scheduler = a; threads = b; semaphores = c; events = d; messages = e })
-  unfolding framesFrom
-  five =
-      rw (
-        behind a _ a′,
-        behind b _ b′,
-        behind c _ c′,
-        behind d _ d′,
-        behind e _ e′,
-        whole a _ a′,
-        whole b _ b′,
-        whole c _ c′,
-        whole d _ d′,
-        whole e _ e′,
-        first a _ a′,
-        first b _ b′,
-        first c _ c′,
-        first d _ d′,
-        first e _ e′,
-        eq-eqb (length end) 2 end′,
-      )
+-- ---- any sections that are not too long for their two bytes
+pub data Short : List (List ℕ) → Type 0 where
+  none : Short []
+  more : {s : List ℕ} {rest : List (List ℕ)} → length s < 65536 → Short rest → Short (s ∷ rest)
 
--- all of them before what is behind
-regroup : (bytes a b c d e end : List ℕ)
-    → (bytes ++ (a ++ (b ++ (c ++ (d ++ e))))) ++ end ≡ bytes ++ (a ++ (b ++ (c ++ (d ++ (e ++ end)))))
-regroup bytes a b c d e end = simp append-assoc
+pub sections-back : {x : List (List ℕ)} → Short x → sectionsAt (length x) (framed x) ≡ x
+unfolding sectionsAt
+sections-back none = refl
+sections-back (more {s} {rest} b h) = rw (first s (framed rest) b, behind s (framed rest) b, sections-back h)
+
+pub whole-back : {x : List (List ℕ)} → Short x → areWhole (length x) (framed x) ≡ true
+unfolding areWhole
+whole-back none = refl
+whole-back (more {s} {rest} b h) = rw (whole s (framed rest) b, behind s (framed rest) b, whole-back h)
+
+-- between sixteen bytes and two
+between : (bytes middle end : List ℕ) → length bytes ≡ 16 → length end ≡ 2 → sectionBytes ((bytes ++ middle) ++ end) ≡ middle
+unfolding sectionBytes
+between bytes middle end h e =
+    let n : length middle ≡ length ((bytes ++ middle) ++ end) - 2 - 16 = simp length-append (omega arith) in
+    rw (← n, append-assoc, drop-at bytes (middle ++ end) 16 h) (take-append-seam middle end)
 
 -- ---- the note
 module _ (k : Kernel) (bytes : List ℕ) (k′ : Kernel) (h : length bytes ≡ 16) where
+  short : Short (sectionsOf k (callOf bytes) k′)
+  short =
+      let c = callOf bytes in
+      more {s = schedulerSection k c k′} (omega (arith, scheduler-short k c k′))
+      (more {s = threadsSection k c k′} (omega (arith, threads-below k c k′))
+      (more {s = semaphoresSection k c k′} (omega (arith, semaphores-below k c k′))
+      (more {s = eventsSection k c k′} (omega (arith, events-below k c k′))
+      (more {s = messagesSection k c k′} (omega (arith, messages-below k c k′)) none))))
+
   pub frames-back : framesOf (noteOf k bytes k′) ≡ sections (sectionsOf k (callOf bytes) k′)
   unfolding framesOf noteOf beforeLength
-  frames-back =
-      let c = callOf bytes in
-      rw (regroup bytes _ _ _ _ _ _, drop-at bytes _ 16 h)
-      (five (schedulerSection k c k′) (threadsSection k c k′) (semaphoresSection k c k′) (eventsSection k c k′) (messagesSection k c k′) _
-      (omega (arith, scheduler-short k c k′)) (omega (arith, threads-below k c k′)) (omega (arith, semaphores-below k c k′))
-      (omega (arith, events-below k c k′)) (omega (arith, messages-below k c k′)) (length-le 2 _))
+  frames-back = rw (between bytes (framed (sectionsOf k (callOf bytes) k′)) _ h (length-le 2 _), whole-back short, sections-back short)
 
   pub record-back : take 16 (noteOf k bytes k′) ≡ bytes
   unfolding noteOf beforeLength
-  record-back = rw (regroup bytes _ _ _ _ _ _) (take-at bytes _ 16 h)
+  record-back = rw append-assoc (take-at bytes _ 16 h)
 
-  -- a note has 28 bytes at least, and its length fits its two bytes
-  pub note-sizes : (28 ≤ length (noteOf k bytes k′)) × (length (noteOf k bytes k′) < 65536)
+  -- no note is shorter than the least, and its length fits its two bytes
+  pub note-sizes : (leastNote ≤ length (noteOf k bytes k′)) × (length (noteOf k bytes k′) < 65536)
   note-sizes =
       let c = callOf bytes in
       let all = note-length k bytes k′ h in
@@ -125,7 +119,7 @@ module _ (k : Kernel) (bytes : List ℕ) (k′ : Kernel) (h : length bytes ≡ 1
         let (low, _) = note-sizes in
         let n = length (noteOf k bytes k′) in
         let l : used ≤ length log = simp length-append (omega arith) in
-        rw (last-length, le-leb 2 used (omega arith), le-leb used (length log) l, le-leb 28 n low, le-leb n used (omega arith))
+        rw (last-length, le-leb 2 used (omega arith), le-leb used (length log) l, le-leb leastNote n low, le-leb n used (omega arith))
 
     pub last-back : lastNote log used ≡ noteOf k bytes k′
     unfolding lastNote

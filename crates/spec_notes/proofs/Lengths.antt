@@ -16,14 +16,16 @@ use Rattle.base_bytes.proofs.Numbers.{length-le}
 use Rattle.spec_kernel.specs.declared.records.Thread.{Thread}
 use Rattle.spec_kernel.specs.declared.records.Semaphore.{Semaphore}
 use Rattle.spec_kernel.specs.declared.records.Kernel.{Kernel}
+use Rattle.spec_kernel.specs.Sizes.{threadCount, semaphoreCount, eventCount, messageCount}
 use Rattle.spec_kernel.specs.Records.{thread, semaphore, message}
 use Rattle.spec_rules.specs.Rules.{Sized, Rules}
 use Rattle.spec_calls.specs.declared.call.Call.{Call}
 use Rattle.spec_calls.specs.Calls.{callOf}
 use Rattle.spec_refusals.specs.Refusals.{is, isOneOf, numberOf}
+use Rattle.spec_moves.specs.Standing.{threadsOf, postsOf}
 use Rattle.spec_moves.specs.States.{scheduled}
 use Rattle.spec_time.specs.Time.{tick}
-use Rattle.spec_effects.specs.Effects.{noKind, effectsOfKinds, effect}
+use Rattle.spec_effects.specs.Effects.{nothing, effectsOfKinds, effect}
 use Rattle.proof_rules.proofs.Core.{live-semaphore}
 use Rattle.proof_rules.proofs.Ends.{Before, before}
 use Rattle.proof_rules.proofs.Accepted.{accepted}
@@ -32,14 +34,15 @@ use Rattle.spec_notes.specs.Rows.{threadCode, threadRow, semaphoreRow, s
 use Rattle.spec_notes.specs.Touched.{sameThread, sameSemaphore, youngerThread, youngerSemaphore, movesInPlace}
 use Rattle.spec_notes.specs.Touched.{touchedThread, touchedSemaphore, touchedEvent, touchedMessage}
 use Rattle.spec_notes.specs.Predicted.{predictedSemaphore}
-use Rattle.spec_notes.specs.Sections.{entriesFrom, threadEntry, semaphoreEntry, eventEntry, messageEntry}
+use Rattle.spec_notes.specs.Sections.{entriesFrom, threadEntry, semaphoreEntry, eventEntry, eventEntries, messageEntry}
 use Rattle.spec_notes.specs.Sections.{schedulerSection, threadsSection, semaphoresSection, eventsSection, messagesSection}
-use Rattle.spec_notes.specs.Notes.{beforeLength, noteOf}
+use Rattle.spec_notes.specs.Notes.{beforeLength, noteOf, leastNote}
 use Rattle.spec_notes.specs.Counts.{countFrom, sameMessageRecord, threadsDiffer, semaphoresDiffer, messagesDiffer, mostBytes}
 use Rattle.spec_notes.specs.Within.{Within, CallWithin}
 use Rattle.spec_notes.proofs.RecordsBack.{same-thread, same-semaphore}
 use Rattle.spec_notes.proofs.EntriesShort.{entries-short, entries-but-one, count-none}
-use Rattle.spec_notes.proofs.EntriesShort.{thread-entry, semaphore-entry, event-entry, message-entry-live, scheduler-short}
+use Rattle.spec_notes.proofs.EntriesShort.{thread-entry, semaphore-entry, event-entry, message-entry-live, bit-short}
+use Rattle.spec_notes.proofs.EntriesShort.{scheduler-short}
 use Rattle.spec_notes.proofs.Slight.{Slight, row-same, effect-slight}
 use Rattle.spec_notes.proofs.TickSlight.{Aged, tick-threads, tick-semaphores}
 
@@ -103,27 +106,25 @@ module _ (k : Kernel) (c : Call) (k′ : Kernel) where
   messageDiffers m = not (sameMessageRecord (message k m) (message k′ m))
 
   module _ (L : Slight k c k′) where
-    events-one : (n : ℕ) → length (entriesFrom (touchedEvent k c k′) (eventEntry k c k′) 0 n) ≤ 11
+    events-one : (n : ℕ) → length (eventEntries (k .events) (k′ .events) 0 n) ≤ 11
+    unfolding touchedEvent
     events-one n =
-        let s =
-        entries-but-one (touchedEvent k c k′) (λ _. false) (eventEntry k c k′) 11 (λ i _. event-entry k c k′ i) (c .a)
-        (λ i t _. L .events i t) 0 n in
+        let s : length (eventEntries (k .events) (k′ .events) 0 n) ≤ 11 * countFrom (λ _. false) 0 n + 11 =
+        entries-but-one (touchedEvent k c k′) _ (eventEntry (k .events) (k′ .events)) 11 (λ i _. event-entry (k .events) (k′ .events) i)
+        (c .a) (λ i t _. L .events i t) 0 n in
         let z = count-none 0 n in
         omega arith
 
     events-short : length (eventsSection k c k′) ≤ 12
     unfolding eventsSection
-    events-short =
-        let more : (h m : ℕ) → h ≤ 1 → m ≤ 11 → h + m ≤ 12 = λ h m a b. omega arith in
-        rw length-append
-        (cases (eqb (k .bits) (k′ .bits)) (λ e. rw e (more 0 _ (omega arith) (events-one 8)))
-        (λ e. rw e (more 1 _ (omega arith) (events-one 8))))
+    events-short = rw length-append (omega (arith, bit-short (k .bits) (k′ .bits), events-one eventCount))
 
     messages-short : length (messagesSection k c k′) ≤ 16 * messagesDiffer k k′ + 16
-    unfolding messagesSection messagesDiffer
+    unfolding messagesSection messagesDiffer touchedMessage
     messages-short =
-        entries-but-one (touchedMessage k c k′) messageDiffers (messageEntry k c k′) 16 (λ m t. message-entry-live k c k′ m (L .lives m t))
-        (L .which) (λ m t d. L .alike m t (not-false _ d)) 0 64
+        entries-but-one (touchedMessage k c k′) messageDiffers (messageEntry c (k′ .runner) (postsOf k) (k′ .messages)) 16
+        (λ m t. message-entry-live c (k′ .runner) (postsOf k) (k′ .messages) m (L .lives m t))
+        (L .which) (λ m t d. L .alike m t (not-false _ d)) 0 messageCount
 
   -- ---- any call but the tick
   module _ (o : is c 1 ≡ false) where
@@ -132,19 +133,21 @@ module _ (k : Kernel) (c : Call) (k′ : Kernel) where
     thread-moves t h d = moves-which (k .runner) c t (rw (younger-now c (thread k′ t) o, d) at h)
 
     threads-called : length (threadsSection k c k′) ≤ 15 * threadsDiffer k k′ + 15
-    unfolding threadsSection threadsDiffer
+    unfolding threadsSection threadsDiffer touchedThread
     threads-called =
-        entries-but-one (touchedThread k c k′) threadDiffers (threadEntry k c k′) 15 (λ t _. thread-entry k c k′ t)
-        (cond (is c 6) (k .runner) (c .a)) thread-moves 0 32
+        entries-but-one (touchedThread k c k′) threadDiffers (threadEntry c (threadsOf k) (k′ .threads)) 15
+        (λ t _. thread-entry c (threadsOf k) (k′ .threads) t)
+        (cond (is c 6) (k .runner) (c .a)) thread-moves 0 threadCount
 
     semaphore-differs : (i : ℕ) → touchedSemaphore k c k′ i ≡ true → semaphoreDiffers i ≡ true
     unfolding touchedSemaphore
     semaphore-differs i h = rw (semaphore-now c (semaphore k′ i) o) at h
 
     semaphores-called : length (semaphoresSection k c k′) ≤ 15 * semaphoresDiffer k k′
-    unfolding semaphoresSection semaphoresDiffer
+    unfolding semaphoresSection semaphoresDiffer touchedSemaphore
     semaphores-called =
-        entries-all (touchedSemaphore k c k′) semaphoreDiffers (semaphoreEntry k c k′) 15 (semaphore-entry k c k′) semaphore-differs 0 16
+        entries-all (touchedSemaphore k c k′) semaphoreDiffers (semaphoreEntry c (k .semaphores) (k′ .semaphores)) 15
+        (semaphore-entry c (k .semaphores) (k′ .semaphores)) semaphore-differs 0 semaphoreCount
 
   -- ---- the tick
   module _ (B : Before k) (B′ : Before k′) (e : c .kind ≡ 1) where
@@ -160,11 +163,12 @@ module _ (k : Kernel) (c : Call) (k′ : Kernel) where
           (λ s. rw s)
 
       threads-tick : length (threadsSection k c k′) ≤ 15 * threadsDiffer k k′
-      unfolding threadsSection threadsDiffer
+      unfolding threadsSection threadsDiffer touchedThread
       threads-tick =
-          entries-all (touchedThread k c k′) threadDiffers (threadEntry k c k′) 15 (thread-entry k c k′) thread-differs 0 32
+          entries-all (touchedThread k c k′) threadDiffers (threadEntry c (threadsOf k) (k′ .threads)) 15
+          (thread-entry c (threadsOf k) (k′ .threads)) thread-differs 0 threadCount
 
-    module _ (aged : (i : ℕ) → i < 16 → Aged (semaphore k i) (semaphore k′ i)) where
+    module _ (aged : (i : ℕ) → i < semaphoreCount → Aged (semaphore k i) (semaphore k′ i)) where
       -- whose record is the same had one tick left, as predicted
       semaphore-predicted : (i : ℕ) → touchedSemaphore k c k′ i ≡ true → sameSemaphore (semaphore k i) (semaphore k′ i) ≡ true
           → predictedSemaphore c (semaphore k′ i) ≡ semaphoreRow (semaphore k i)
@@ -180,22 +184,24 @@ module _ (k : Kernel) (c : Call) (k′ : Kernel) where
           let one-left : r .ticks ≡ 1 = aged i (live-semaphore (B .core) i l) p b (ap (λ (x : Semaphore). x .ticks) z) in
           rw (z, e, l, one-left)
 
-      semaphore-two : (i : ℕ) → touchedSemaphore k c k′ i ≡ true → length (semaphoreEntry k c k′ i) ≤ 13 * one (semaphoreDiffers i) + 2
-      unfolding semaphoreEntry
+      semaphore-two : (i : ℕ) → touchedSemaphore k c k′ i ≡ true
+          → length (semaphoreEntry c (k .semaphores) (k′ .semaphores) i) ≤ 13 * one (semaphoreDiffers i) + 2
       semaphore-two i h =
           cases (sameSemaphore (semaphore k i) (semaphore k′ i))
           (λ s. rw (s, semaphore-predicted i h s, body-same semaphoreWidths (semaphoreRow (semaphore k i))) (omega arith))
-          (λ s. rw s (semaphore-entry k c k′ i))
+          (λ s. rw s (semaphore-entry c (k .semaphores) (k′ .semaphores) i))
 
       semaphores-tick : length (semaphoresSection k c k′) ≤ 13 * semaphoresDiffer k k′ + 32
-      unfolding semaphoresSection semaphoresDiffer
-      semaphores-tick = entries-short (touchedSemaphore k c k′) semaphoreDiffers (semaphoreEntry k c k′) 13 2 semaphore-two 0 16
+      unfolding semaphoresSection semaphoresDiffer touchedSemaphore
+      semaphores-tick =
+          entries-short (touchedSemaphore k c k′) semaphoreDiffers (semaphoreEntry c (k .semaphores) (k′ .semaphores)) 13 2 semaphore-two 0
+          semaphoreCount
 
 -- ---- the note
 module _ (k : Kernel) (bytes : List ℕ) (k′ : Kernel) where
   pub note-length : length bytes ≡ 16
       → length (noteOf k bytes k′)
-      ≡ 28 + length (schedulerSection k (callOf bytes) k′) + length (threadsSection k (callOf bytes) k′)
+      ≡ leastNote + length (schedulerSection k (callOf bytes) k′) + length (threadsSection k (callOf bytes) k′)
       + length (semaphoresSection k (callOf bytes) k′) + length (eventsSection k (callOf bytes) k′) + length
       (messagesSection k (callOf bytes) k′)
   unfolding noteOf beforeLength
@@ -209,13 +215,13 @@ scheduled-slight k c u L = record { events = L .events; lives = L .lives; which 
 module _ (k : Kernel) (c : Call) (S : Before k) (e : c .kind ≡ 1) where
   effect-tick : effect k c ≡ tick k c
   unfolding effect
-  effect-tick = ap (λ (n : ℕ). getD effectsOfKinds n noKind .does k c) e
+  effect-tick = ap (λ (n : ℕ). getD effectsOfKinds n nothing k c) e
 
   scheduled-threads : (t : ℕ) → thread (scheduled (effect k c)) t .ticks ≤ thread k t .ticks - 1
   unfolding scheduled
   scheduled-threads t = rw effect-tick (tick-threads k c (S .core .standing) t)
 
-  scheduled-semaphores : (i : ℕ) → i < 16 → Aged (semaphore k i) (semaphore (scheduled (effect k c)) i)
+  scheduled-semaphores : (i : ℕ) → i < semaphoreCount → Aged (semaphore k i) (semaphore (scheduled (effect k c)) i)
   unfolding scheduled
   scheduled-semaphores i b = rw effect-tick (tick-semaphores k c i b)
 

@@ -17,6 +17,7 @@ use Rattle.spec_kernel.specs.declared.records.Message.{Message}
 use Rattle.spec_kernel.specs.declared.records.Kernel.{Kernel}
 use Rattle.spec_moves.specs.declared.parts.Threads.{Threads}
 use Rattle.spec_moves.specs.declared.parts.Posts.{Posts}
+use Rattle.spec_kernel.specs.Sizes.{threadCount, messageCount}
 use Rattle.spec_kernel.specs.Records.{thread, semaphore, event, message, noThread, noSemaphore, noEvent, noMessage}
 use Rattle.spec_moves.specs.Moves.{threadIn, relocate, repost}
 use Rattle.spec_moves.specs.Standing.{messageIn}
@@ -180,10 +181,12 @@ module _ {k : Kernel} (L : Limits k) where
   unfolding relocate
   place-limits t r b =
       threads-limits _
-      (λ u. cases (ltb t 32) (λ e. rw e (set-all SmallThread (k .threads) t r noThread b (L .threads) u)) (λ e. rw e (L .threads u)))
+      (λ u. cases (ltb t threadCount) (λ e. rw e (set-all SmallThread (k .threads) t r noThread b (L .threads) u))
+      (λ e. rw e (L .threads u)))
 
   pub file-limits : (m : ℕ) (r : Message) → SmallMessage r → Limits (moveMessage m r k)
   unfolding repost
   file-limits m r b =
       posts-limits _
-      (λ u. cases (ltb m 64) (λ e. rw e (set-all SmallMessage (k .messages) m r noMessage b (L .messages) u)) (λ e. rw e (L .messages u)))
+      (λ u. cases (ltb m messageCount) (λ e. rw e (set-all SmallMessage (k .messages) m r noMessage b (L .messages) u))
+      (λ e. rw e (L .messages u)))

@@ -7,12 +7,14 @@ use native.Mathlib.Nat.{le-refl}
 use native.Mathlib.Omega.{arith}
 use lib.ListN.{set, replicate}
 use borrow.Author.Tests.{not-false}
-use Rattle.base_queue.specs.Queues.{items}
+use Rattle.base_queue.specs.Queues.{capacity, items}
 use Rattle.base_queue.specs.Tables.{oldPlace}
 use Rattle.base_queue.proofs.Queues.{length-items}
 use Rattle.spec_kernel.specs.declared.records.Kernel.{Kernel}
+use Rattle.spec_kernel.specs.Sizes.{messageCount}
 use Rattle.spec_kernel.specs.Records.{message, noMessage}
 use Rattle.spec_kernel.specs.Places.{isQueued}
+use Rattle.spec_moves.specs.Standing.{postsOf}
 use Rattle.spec_rules.specs.Rules.{Sized, Rules}
 use Rattle.spec_rules.proofs.FromRules.{filed}
 use Rattle.spec_calls.specs.declared.call.Call.{Call}
@@ -31,6 +33,9 @@ use Rattle.spec_notes.proofs.TablesBack.{place-below, table-back}
 module _ (k : Kernel) (c : Call) (k′ : Kernel) where
   abbrev touched : ℕ → Bool
   touched = touchedMessage k c k′
+
+  abbrev entry : ℕ → List ℕ
+  entry = messageEntry c (k′ .runner) (postsOf k) (k′ .messages)
 
   -- what an entry gives
   abbrev step : ℕ → Filing → Filing
@@ -56,9 +61,9 @@ module _ (k : Kernel) (c : Call) (k′ : Kernel) where
         (field (λ _. place-below m (items (k .posted)) (length-items (k .posted) (Z .posted))) none)))))))
 
     next : (n m : ℕ) (rest : List ℕ) (a : Filing)
-        → readMessages (suc n) c (k′ .runner) (k′ .messages) (messageEntry k c k′ m ++ rest) a
+        → readMessages (suc n) c (k′ .runner) (k′ .messages) (entry m ++ rest) a
         ≡ readMessages n c (k′ .runner) (k′ .messages) rest (step m a)
-    unfolding readMessages messageEntry
+    unfolding readMessages
     next n m rest a = rw (rest-back (_ ∷ []) rest (fits m), row-back rest (fits m), message-back (message k m))
 
     -- what the section gives, and a part of it
@@ -66,12 +71,13 @@ module _ (k : Kernel) (c : Call) (k′ : Kernel) where
     read = messagesBefore c (k′ .runner) (k′ .messages) (messagesSection k c k′)
 
     part : {B : Type 0} (f : Filing → B) (put : ℕ → B → B) → ((m : ℕ) (a : Filing) → f (step m a) ≡ put m (f a))
-        → f read ≡ each touched put 0 64 (f (record { messages = k′ .messages; out = replicate 64 0; at = replicate 64 255 }))
-    unfolding messagesBefore messagesSection readMessages messageEntry
+        → f read ≡ each touched put 0 messageCount
+        (f (record { messages = k′ .messages; out = replicate capacity 0; at = replicate capacity 255 }))
+    unfolding messagesBefore messagesSection readMessages touchedMessage
     part f put h =
-        read-part (λ n. readMessages n c (k′ .runner) (k′ .messages)) touched (messageEntry k c k′) step (λ _. refl) (λ _. refl)
+        read-part (λ n. readMessages n c (k′ .runner) (k′ .messages)) touched entry step (λ _. refl) (λ _. refl)
         (λ _ _. refl) next f put h
-        _ 64 _ (le-refl _)
+        _ messageCount _ (le-refl _)
 
     module _ (Z′ : Sized k′) where
       untouched : (m : ℕ) → touched m ≡ false → message k′ m ≡ message k m
@@ -81,12 +87,13 @@ module _ (k : Kernel) (c : Call) (k′ : Kernel) where
       pub messages-back : read .messages ≡ k .messages
       messages-back =
           part (λ a. a .messages) (λ m l. set l m (message k m)) (λ _ _. refl)
-          ∙ records-back touched noMessage 64 (k .messages) (k′ .messages) (Z .messages) (Z′ .messages) (λ m _ e. untouched m e)
+          ∙ records-back touched noMessage messageCount (k .messages) (k′ .messages) (Z .messages) (Z′ .messages) (λ m _ e. untouched m e)
 
       pub posted-back : Rules k → Rules k′ → LeftAlone k c k′ → putBackAll (read .out) (read .at) (k′ .posted) ≡ k .posted
       posted-back R R′ F =
           let S = filed k Z R in
-          table-back isQueued noMessage refl 64 (omega arith) touched (k .messages) (k′ .messages) (k .posted) (k′ .posted) (Z .messages)
+          table-back isQueued noMessage refl messageCount (omega arith) touched (k .messages) (k′ .messages) (k .posted) (k′ .posted)
+          (Z .messages)
           (Z′ .messages)
           (S .tidy) (S .placed) (filed k′ Z′ R′ .placed) (F .posted) (part (λ a. a .out) (λ m l. set l m 1) (λ _ _. refl))
           (part (λ a. a .at) (λ m l. set l _ m) (λ _ _. refl))

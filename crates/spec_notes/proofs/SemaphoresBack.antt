@@ -8,6 +8,7 @@ use lib.ListN.{set, length-map}
 use borrow.Author.Tests.{not-false}
 use Rattle.spec_kernel.specs.declared.records.Semaphore.{Semaphore}
 use Rattle.spec_kernel.specs.declared.records.Kernel.{Kernel}
+use Rattle.spec_kernel.specs.Sizes.{semaphoreCount}
 use Rattle.spec_kernel.specs.Records.{semaphore, noSemaphore}
 use Rattle.spec_rules.specs.Rules.{Sized}
 use Rattle.spec_calls.specs.declared.call.Call.{Call}
@@ -25,6 +26,9 @@ module _ (k : Kernel) (c : Call) (k′ : Kernel) (W : Within k) where
   abbrev touched : ℕ → Bool
   touched = touchedSemaphore k c k′
 
+  abbrev entry : ℕ → List ℕ
+  entry = semaphoreEntry c (k .semaphores) (k′ .semaphores)
+
   -- what an entry gives
   abbrev step : ℕ → List Semaphore → List Semaphore
   step i a = set a i (semaphore k i)
@@ -36,8 +40,8 @@ module _ (k : Kernel) (c : Call) (k′ : Kernel) (W : Within k) where
       (field (λ _. W .count i) (field (λ _. W .maximum i) (field (λ _. W .left i) (field (λ _. W .period i) (unused 3)))))
 
   next : (n i : ℕ) (rest : List ℕ) (a : List Semaphore)
-      → readSemaphores (suc n) c (k′ .semaphores) (semaphoreEntry k c k′ i ++ rest) a ≡ readSemaphores n c (k′ .semaphores) rest (step i a)
-  unfolding readSemaphores semaphoreEntry
+      → readSemaphores (suc n) c (k′ .semaphores) (entry i ++ rest) a ≡ readSemaphores n c (k′ .semaphores) rest (step i a)
+  unfolding readSemaphores
   next n i rest a = rw (rest-back (_ ∷ []) rest (fits i), row-back rest (fits i), semaphore-back)
 
   module _ (Z : Sized k) (Z′ : Sized k′) where
@@ -46,11 +50,11 @@ module _ (k : Kernel) (c : Call) (k′ : Kernel) (W : Within k) where
     untouched i h = sym (same-semaphore (semaphore k i) (youngerSemaphore c (semaphore k′ i)) (not-false _ h))
 
     pub semaphores-back : semaphoresBefore c (k′ .semaphores) (semaphoresSection k c k′) ≡ k .semaphores
-    unfolding semaphoresBefore semaphoresSection readSemaphores semaphoreEntry
+    unfolding semaphoresBefore semaphoresSection readSemaphores touchedSemaphore
     semaphores-back =
-        read-part (λ n. readSemaphores n c (k′ .semaphores)) touched (semaphoreEntry k c k′) step (λ _. refl) (λ _. refl)
+        read-part (λ n. readSemaphores n c (k′ .semaphores)) touched entry step (λ _. refl) (λ _. refl)
         (λ _ _. refl) next (λ a. a) step
-        (λ _ _. refl) _ 16 _ (le-refl _)
-        ∙ records-back touched noSemaphore 16 (k .semaphores) (map (youngerSemaphore c) (k′ .semaphores)) (Z .semaphores)
+        (λ _ _. refl) _ semaphoreCount _ (le-refl _)
+        ∙ records-back touched noSemaphore semaphoreCount (k .semaphores) (map (youngerSemaphore c) (k′ .semaphores)) (Z .semaphores)
         (length-map (k′ .semaphores) _ ∙ Z′ .semaphores)
         (λ i b e. getD-map (youngerSemaphore c) (k′ .semaphores) i noSemaphore (rw (Z′ .semaphores) b) ∙ untouched i e)

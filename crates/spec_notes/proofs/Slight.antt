@@ -1,12 +1,12 @@
 -- How little a call changes: at most the event that it names, and of the messages whose record stays but for the channel at most one.
 use Prim.Native.Nat.{ℕ, zero, suc}
 use mathlib.Core.Path.{_≡_, refl, sym, ap, _∙_}
-use mathlib.Core.Bool.{Bool, true, false, cond, not, false≢true, and-eq-true-iff, or-false}
+use mathlib.Core.Bool.{Bool, true, false, cond, false≢true, and-eq-true-iff, or-false}
 use mathlib.Core.List.{List, [], _∷_}
 use native.Mathlib.Omega.{arith}
 use lib.Dec.{eqb, ltb}
 use lib.Seq.{getD-set-other}
-use borrow.Author.Tests.{eqb-true, eqb-false, ltb-true, not-false}
+use borrow.Author.Tests.{eqb-true, eqb-false, ltb-true}
 use borrow.Table.Steps.{cases}
 use Rattle.base_queue.specs.Lists.{keep}
 use Rattle.base_queue.specs.Queues.{items}
@@ -14,6 +14,7 @@ use Rattle.base_queue.specs.Tables.{one}
 use Rattle.base_queue.proofs.Counts.{same, kept}
 use Rattle.spec_kernel.specs.declared.records.Message.{Message}
 use Rattle.spec_kernel.specs.declared.records.Kernel.{Kernel}
+use Rattle.spec_kernel.specs.Sizes.{semaphoreCount}
 use Rattle.spec_kernel.specs.Records.{thread, semaphore, event, message, noEvent, noMessage}
 use Rattle.spec_kernel.specs.Conditions.{masks, awaits}
 use Rattle.spec_kernel.specs.Truth.{isTrue}
@@ -23,7 +24,9 @@ use Rattle.spec_moves.proofs.Posts.{repost-other}
 use Rattle.spec_kernel.specs.Free.{freeMessage}
 use Rattle.spec_kernel.specs.Channels.{isFor, firstFor, nextMessage}
 use Rattle.spec_calls.specs.declared.call.Call.{Call}
-use Rattle.spec_refusals.specs.Refusals.{is, badId, noneFree}
+use Rattle.spec_calls.specs.Kinds.{kindOf}
+use Rattle.spec_refusals.specs.Named.{named, valueOf}
+use Rattle.spec_refusals.specs.Refusals.{is, noneFree}
 use Rattle.spec_moves.specs.States.{moveMessage, asByte}
 use Rattle.spec_threads.specs.Threads.{block, wake, owns, freeMessages, createThread}
 use Rattle.spec_threads.specs.Threads.{destroyThread, setPriority, resetPriority, yielded, sleep}
@@ -36,7 +39,7 @@ use Rattle.spec_time.specs.Time.{pulse, pulseFrom, tick}
 use Rattle.spec_effects.specs.Effects.{effect}
 use Rattle.proof_rules.proofs.Ends.{Before}
 use Rattle.proof_rules.proofs.Free.{free-id}
-use Rattle.proof_rules.proofs.Accepted.{Accepted, neither}
+use Rattle.proof_rules.proofs.Accepted.{Accepted, message-named}
 use Rattle.proof_rules.proofs.Effects.{_▸_, end, effect-of}
 use Rattle.proof_rules.proofs.OfDestroy.{freed-record}
 use Rattle.spec_notes.specs.Rows.{eventRow, messageRow}
@@ -123,7 +126,7 @@ module _ {k : Kernel} (B : Before k) {c : Call} (A : Accepted k c) where
 
   kind-1 : c .kind ≡ 1 → Slight k c (tick k c)
   unfolding tick
-  kind-1 _ = let (d, e) = pulses-parts 0 16 _ in no-change k c (tick k c) d e
+  kind-1 _ = let (d, e) = pulses-parts 0 semaphoreCount _ in no-change k c (tick k c) d e
 
   -- those that the thread owns are freed
   kind-3 : c .kind ≡ 3 → Slight k c (destroyThread k c)
@@ -164,22 +167,21 @@ module _ {k : Kernel} (B : Before k) {c : Call} (A : Accepted k c) where
       refl
 
   kind-24 : c .kind ≡ 24 → Slight k c (createMessage k c)
-  unfolding createMessage noneFree
+  unfolding createMessage noneFree named valueOf kindOf
   kind-24 e =
       let (_, dead) = free-id (λ r. r .live) noMessage (k .messages) (simp (e, or-false) at (A .free)) in
       one-message k c (createMessage k c) (freeMessage k) _ refl refl (rw (dead, e))
 
   kind-25 : c .kind ≡ 25 → Slight k c (destroyMessage k c)
-  unfolding destroyMessage badId
+  unfolding destroyMessage
   kind-25 e =
-      let l = not-false (message k (c .a) .live) (simp (e, or-false) at (A .ids)) in
+      let l = message-named A e refl in
       one-message k c (destroyMessage k c) (c .a) noMessage refl refl (rw (l, e))
 
   kind-26 : c .kind ≡ 26 → Slight k c (postMessage k c)
-  unfolding postMessage handOver badId
+  unfolding postMessage handOver
   kind-26 e =
-      let (_, gone) = neither (not (thread k (c .b) .live)) (not (message k (c .a) .live)) (simp (e, or-false) at (A .ids)) in
-      let l = not-false (message k (c .a) .live) gone in
+      let l = message-named A e refl in
       cases (awaits (thread k (c .b) .condition) (asByte (c .c)))
       (λ h. rw h (one-message k c _ (c .a) _ refl refl (rw (l, e)))) (λ h. rw h (one-message k c _ (c .a) _ refl refl (rw (l, e))))
 

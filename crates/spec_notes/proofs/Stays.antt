@@ -17,6 +17,7 @@ use Rattle.spec_kernel.specs.declared.records.Thread.{Thread}
 use Rattle.spec_kernel.specs.declared.records.Message.{Message}
 use Rattle.spec_kernel.specs.declared.records.Kernel.{Kernel}
 use Rattle.spec_moves.specs.declared.parts.Threads.{Threads}
+use Rattle.spec_kernel.specs.Sizes.{threadCount, messageCount}
 use Rattle.spec_kernel.specs.Records.{thread, noThread}
 use Rattle.spec_kernel.specs.Conditions.{readyFor}
 use Rattle.spec_moves.specs.Moves.{relocate}
@@ -25,7 +26,8 @@ use Rattle.spec_moves.proofs.Threads.{relocate-past, relocate-same, relocate-ke
 use Rattle.spec_moves.proofs.Posts.{repost-past, repost-keep}
 use Rattle.spec_kernel.specs.Free.{freeThread}
 use Rattle.spec_calls.specs.declared.call.Call.{Call}
-use Rattle.spec_calls.specs.Kinds.{rowOf, fromThread}
+use Rattle.spec_calls.specs.Kinds.{kindOf, fromThread}
+use Rattle.spec_refusals.specs.Named.{named, valueOf}
 use Rattle.spec_refusals.specs.Refusals.{noneFree}
 use Rattle.spec_moves.specs.States.{moveThread, moveMessage}
 use Rattle.spec_threads.specs.Threads.{born, blocked, block, createThread, setPriority, resetPriority, yielded, sleep}
@@ -109,17 +111,17 @@ module _ (k : Kernel) (c : Call) (u : Kernel) (t : ℕ) where
   touched-place e = rw (e, or-true)
 
 -- ---- one move
-pub relocate-keeps : (p : Threads) (t : ℕ) (r : Thread) (f : ℕ → Bool) → (t < 32 → f t ≡ false) → Keeps f p (relocate t r p)
+pub relocate-keeps : (p : Threads) (t : ℕ) (r : Thread) (f : ℕ → Bool) → (t < threadCount → f t ≡ false) → Keeps f p (relocate t r p)
 relocate-keeps p t r f h =
-    cases (ltb t 32) (λ e. let z = h (ltb-true t 32 e) in (relocate-keep p t r f z, relocate-time-keep p t r f z))
-    (λ e. rw (relocate-past p t r (ltb-false t 32 e)) (refl, refl))
+    cases (ltb t threadCount) (λ e. let z = h (ltb-true t threadCount e) in (relocate-keep p t r f z, relocate-time-keep p t r f z))
+    (λ e. rw (relocate-past p t r (ltb-false t threadCount e)) (refl, refl))
 
 module _ (k : Kernel) (c : Call) (t : ℕ) (r : Thread) where
   -- a thread that is touched
-  place-stays : (t < 32 → touchedThread k c (moveThread t r k) t ≡ true) → ThreadsStay k c (moveThread t r k)
+  place-stays : (t < threadCount → touchedThread k c (moveThread t r k) t ≡ true) → ThreadsStay k c (moveThread t r k)
   place-stays h = relocate-keeps (threadsOf k) t r (λ x. not (touchedThread k c (moveThread t r k) x)) (λ b. rw (h b))
 
-  pub code-stays : length (k .threads) ≡ 32 → (threadCode (thread k t) ≡ threadCode r → ⊥) → ThreadsStay k c (moveThread t r k)
+  pub code-stays : length (k .threads) ≡ threadCount → (threadCode (thread k t) ≡ threadCode r → ⊥) → ThreadsStay k c (moveThread t r k)
   code-stays e ne =
       place-stays (λ b. touched-code k c (moveThread t r k) t (λ z. ne (z ∙ ap threadCode (relocate-same (threadsOf k) t r e b))))
 
@@ -128,11 +130,11 @@ module _ (k : Kernel) (c : Call) (t : ℕ) (r : Thread) where
 
 -- a message that is touched
 pub file-stays : (k : Kernel) (c : Call) (m : ℕ) (r : Message)
-    → (m < 64 → touchedMessage k c (moveMessage m r k) m ≡ true) → PostsStay k c (moveMessage m r k)
+    → (m < messageCount → touchedMessage k c (moveMessage m r k) m ≡ true) → PostsStay k c (moveMessage m r k)
 file-stays k c m r h =
-    cases (ltb m 64)
-    (λ e. repost-keep (postsOf k) m r (λ x. not (touchedMessage k c (moveMessage m r k) x)) (rw (h (ltb-true m 64 e))))
-    (λ e. rw (repost-past (postsOf k) m r (ltb-false m 64 e)))
+    cases (ltb m messageCount)
+    (λ e. repost-keep (postsOf k) m r (λ x. not (touchedMessage k c (moveMessage m r k) x)) (rw (h (ltb-true m messageCount e))))
+    (λ e. rw (repost-past (postsOf k) m r (ltb-false m messageCount e)))
 
 -- ---- the kinds
 module _ {k : Kernel} (B : Before k) {c : Call} (A : Accepted k c) where
@@ -149,7 +151,7 @@ module _ {k : Kernel} (B : Before k) {c : Call} (A : Accepted k c) where
       (code-stays k c (k .runner) r (B .core .standing .count) (λ z. omega (arith, up-code s (rw l at ready), down-code r l h))) refl e
 
   pub kind-2 : c .kind ≡ 2 → Left k c (createThread k c)
-  unfolding createThread noneFree
+  unfolding createThread noneFree named valueOf kindOf
   kind-2 e =
       let t = freeThread k in
       let (_, dead) = free-id (λ r. r .live) noThread (k .threads) (simp (e, or-false) at (A .free)) in
@@ -169,5 +171,5 @@ module _ {k : Kernel} (B : Before k) {c : Call} (A : Accepted k c) where
   kind-6 e = quiet refl (refl, refl) (place-in-place k c (k .runner) _ (rw (e, same))) refl e
 
   pub kind-7 : c .kind ≡ 7 → Left k c (sleep k c)
-  unfolding sleep fromThread rowOf
+  unfolding sleep fromThread kindOf
   kind-7 e = block-left refl (rw e) Asleep (c .c) refl e

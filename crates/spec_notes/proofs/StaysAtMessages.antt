@@ -19,6 +19,7 @@ use Rattle.spec_kernel.specs.declared.records.Wake.{Wake}
 use Rattle.spec_kernel.specs.declared.records.Thread.{Thread}
 use Rattle.spec_kernel.specs.declared.records.Message.{Message}
 use Rattle.spec_kernel.specs.declared.records.Kernel.{Kernel}
+use Rattle.spec_kernel.specs.Sizes.{channelCount}
 use Rattle.spec_kernel.specs.Records.{thread, message, noThread, noMessage}
 use Rattle.spec_kernel.specs.Conditions.{readyFor, masks, awaits}
 use Rattle.spec_moves.specs.Standing.{postsOf}
@@ -26,15 +27,16 @@ use Rattle.spec_moves.proofs.Posts.{repost-same}
 use Rattle.spec_kernel.specs.Free.{freeMessage}
 use Rattle.spec_kernel.specs.Channels.{isFor, firstFor, nextMessage}
 use Rattle.spec_calls.specs.declared.call.Call.{Call}
-use Rattle.spec_calls.specs.Kinds.{rowOf, fromThread}
-use Rattle.spec_refusals.specs.Refusals.{badNumber, badId, isInChannel, notOwner, noneFree}
+use Rattle.spec_calls.specs.Kinds.{kindOf, fromThread}
+use Rattle.spec_refusals.specs.Named.{named, valueOf}
+use Rattle.spec_refusals.specs.Refusals.{badNumber, isInChannel, notOwner, noneFree}
 use Rattle.spec_moves.specs.States.{moveMessage, asByte}
 use Rattle.spec_threads.specs.Threads.{awake, owns, freeMessages, destroyThread}
 use Rattle.spec_messages.specs.Messages.{createMessage, destroyMessage, handOver, postMessage, receive, pendMessage}
 use Rattle.proof_rules.proofs.Core.{live-thread}
 use Rattle.proof_rules.proofs.Ends.{Before}
 use Rattle.proof_rules.proofs.Free.{free-id}
-use Rattle.proof_rules.proofs.Accepted.{Accepted, neither, inside, thread-named}
+use Rattle.proof_rules.proofs.Accepted.{Accepted, inside, thread-named, message-named}
 use Rattle.proof_rules.proofs.OfDestroy.{freed-record}
 use Rattle.proof_rules.proofs.Steps.{ready-live, caller-ready}
 use Rattle.spec_notes.specs.Rows.{messageRow}
@@ -95,7 +97,7 @@ module _ {k : Kernel} (B : Before k) {c : Call} (A : Accepted k c) where
   pub kind-3 : c .kind ≡ 3 → Left k c (destroyThread k c)
   unfolding destroyThread freeMessages touchedThread touchedMessage
   kind-3 e =
-      let l = thread-named A (rw e) in
+      let l = thread-named A e refl in
       quiet refl (refl, refl)
       (code-stays k c (c .a) noThread (B .core .standing .count) (λ z. omega (arith, live-code (thread k (c .a)) l)))
       (free-stays k c (c .a)) e
@@ -107,26 +109,25 @@ module _ {k : Kernel} (B : Before k) {c : Call} (A : Accepted k c) where
       (λ b. touched-field k c (moveMessage m r k) m i (λ z. h (z ∙ ap (field i) (repost-same (postsOf k) m r (B .core .filed .count) b))))
 
   pub kind-24 : c .kind ≡ 24 → Left k c (createMessage k c)
-  unfolding createMessage noneFree
+  unfolding createMessage noneFree named valueOf kindOf
   kind-24 e =
       let m = freeMessage k in
       let (_, dead) = free-id (λ r. r .live) noMessage (k .messages) (simp (e, or-false) at (A .free)) in
       quiet refl (refl, refl) (refl, refl) (file-differs m _ 0 (rw dead (λ z. omega arith))) e
 
   pub kind-25 : c .kind ≡ 25 → Left k c (destroyMessage k c)
-  unfolding destroyMessage badId
+  unfolding destroyMessage
   kind-25 e =
-      let l = not-false (message k (c .a) .live) (simp (e, or-false) at (A .ids)) in
+      let l = message-named A e refl in
       quiet refl (refl, refl) (refl, refl) (file-differs (c .a) noMessage 0 (rw l (λ z. omega arith))) e
 
   -- the recipient that awaits the channel wakes, and the message has another owner; else it has a channel
   pub kind-26 : c .kind ≡ 26 → Left k c (postMessage k c)
-  unfolding postMessage handOver badNumber badId isInChannel notOwner fromThread rowOf touchedThread touchedMessage
+  unfolding postMessage handOver badNumber isInChannel notOwner named fromThread kindOf touchedThread touchedMessage
   kind-26 e =
-      let (low, high) = inside 1 15 (c .c) (simp (e, or-false) at (A .numbers)) in
-      let (dead, gone) = neither (not (thread k (c .b) .live)) (not (message k (c .a) .live)) (simp (e, or-false) at (A .ids)) in
-      let l = not-false (thread k (c .b) .live) dead in
-      let m = not-false (message k (c .a) .live) gone in
+      let (low, high) = inside 1 channelCount (c .c) (simp (e, or-false) at (A .numbers)) in
+      let l = thread-named A e refl in
+      let m = message-named A e refl in
       let held = ltb-false 0 (message k (c .a) .channel) (simp (e, m) at (A .held)) in
       let own = eqb-true (message k (c .a) .owner) (k .runner) (not-false _ (rw e at (A .owner))) in
       let b = live-thread (B .core) (c .b) l in
@@ -146,7 +147,7 @@ module _ {k : Kernel} (B : Before k) {c : Call} (A : Accepted k c) where
 
   -- the caller blocks, or takes a message off its channel
   pub kind-27 : c .kind ≡ 27 → Left k c (pendMessage k c)
-  unfolding pendMessage receive firstFor fromThread rowOf
+  unfolding pendMessage receive firstFor fromThread kindOf
   kind-27 e =
       let m = nextMessage k (c .b) in
       let mine : ℕ → Bool = λ x. isFor (k .runner) (c .b) (message k x) in

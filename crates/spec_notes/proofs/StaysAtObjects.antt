@@ -18,12 +18,14 @@ use Rattle.spec_kernel.specs.declared.records.Condition.the-variants.{ForSemaph
 use Rattle.spec_kernel.specs.declared.records.Semaphore.{Semaphore}
 use Rattle.spec_kernel.specs.declared.records.Event.{Event}
 use Rattle.spec_kernel.specs.declared.records.Kernel.{Kernel}
+use Rattle.spec_kernel.specs.Sizes.{semaphoreCount, eventCount}
 use Rattle.spec_kernel.specs.Records.{semaphore, event}
-use Rattle.spec_kernel.specs.Places.{semaphoreHome, semaphoreQueue}
+use Rattle.spec_kernel.specs.Conditions.{ofSemaphores}
+use Rattle.spec_kernel.specs.Places.{home, semaphoreQueue}
 use Rattle.spec_kernel.specs.Truth.{isTrue}
 use Rattle.spec_moves.specs.Standing.{threadsOf}
 use Rattle.spec_calls.specs.declared.call.Call.{Call}
-use Rattle.spec_calls.specs.Kinds.{rowOf, fromThread}
+use Rattle.spec_calls.specs.Kinds.{kindOf, fromThread}
 use Rattle.spec_moves.specs.States.{withSemaphore, withEvents}
 use Rattle.spec_threads.specs.Threads.{wake}
 use Rattle.spec_semaphores.specs.Semaphores.{postTo, post, pendSemaphore, postSemaphore}
@@ -51,7 +53,7 @@ pub semaphore-woke : {k u : Kernel} → Woke k u → (i : ℕ) (s : Semaphore) �
 semaphore-woke W i s = record { threads = W .threads; posted = W .posted; bits = W .bits; uptime = W .uptime }
 
 -- a semaphore is posted: its first waiter wakes, or it gets a record
-pub post-woke : {k u : Kernel} → Woke k u → (i : ℕ) → i < 16 → Woke k (post i u)
+pub post-woke : {k u : Kernel} → Woke k u → (i : ℕ) → i < semaphoreCount → Woke k (post i u)
 unfolding post wake
 post-woke {k} {u} W i b = go (semaphoreQueue u i) refl
   where
@@ -60,7 +62,8 @@ post-woke {k} {u} W i b = go (semaphoreQueue u i) refl
     go (t ∷ q) e = record {
       threads =
           then-wakes (W .threads)
-          (one-wakes (W .threads .standing) (W .threads .small) (semaphoreHome i) (omega arith) (omega arith) t (rw e (count-head t q)));
+          (one-wakes (W .threads .standing) (W .threads .small) (home ofSemaphores i) (omega arith) (omega arith) t
+          (rw e (count-head t q)));
       posted = W .posted;
       bits = W .bits;
       uptime = W .uptime;
@@ -96,19 +99,19 @@ module _ {k : Kernel} (B : Before k) {c : Call} (A : Accepted k c) where
       quiet o (W .bits, W .uptime) (wakes-stay (B .core) c (post (c .a) k) (W .threads)) (posted-stay k c (post (c .a) k) (W .posted)) e
 
   pub kind-19 : c .kind ≡ 19 → Left k c (postSemaphore k c)
-  kind-19 e = post-left refl (semaphore-named A (rw e)) e
+  kind-19 e = post-left refl (semaphore-named A e refl) e
 
   pub kind-28 : c .kind ≡ 28 → Left k c (postSemaphore k c)
-  kind-28 e = post-left refl (semaphore-named A (rw e)) e
+  kind-28 e = post-left refl (semaphore-named A e refl) e
 
   pub kind-18 : c .kind ≡ 18 → Left k c (pendSemaphore k c)
-  unfolding pendSemaphore fromThread rowOf
+  unfolding pendSemaphore fromThread kindOf
   kind-18 e =
       cases (ltb 0 (semaphore k (c .a) .count)) (λ h. rw h (quiet refl (refl, refl) (refl, refl) refl e))
       (λ h. rw h (block-left B A refl (rw e) (ForSemaphore (c .a)) (c .c) refl e))
 
   pub kind-21 : c .kind ≡ 21 → Left k c (pendEvent k c)
-  unfolding pendEvent fromThread rowOf
+  unfolding pendEvent fromThread kindOf
   kind-21 e =
       cases (isTrue (k .bits) (event k (c .a))) (λ h. rw h (quiet refl (refl, refl) (refl, refl) refl e))
       (λ h. rw h (block-left B A refl (rw e) (ForEvent (c .a)) (c .c) refl e))
@@ -120,7 +123,7 @@ module _ {k : Kernel} (B : Before k) {c : Call} (A : Accepted k c) where
   worked-left o e l bits d = record {
     threads =
         wakes-stay (B .core) c (workedOut (withEvents l bits k))
-        (outs-wake l bits 0 8 (omega arith) (B .core .standing) (sized (B .core) .priorities));
+        (outs-wake l bits 0 eventCount (omega arith) (B .core .standing) (sized (B .core) .priorities));
     posts = refl;
     bits = d;
     uptime = rw (e, o);

@@ -13,6 +13,7 @@ use Rattle.spec_kernel.specs.declared.records.Condition.{Condition}
 use Rattle.spec_kernel.specs.declared.records.Condition.the-variants.{Ready, Asleep, ForSemaphore, ForEvent, ForMessage}
 use Rattle.spec_kernel.specs.declared.records.Kernel.{Kernel}
 use Rattle.spec_moves.specs.declared.parts.Threads.{Threads}
+use Rattle.spec_kernel.specs.Sizes.{semaphoreCount}
 use Rattle.spec_kernel.specs.Records.{thread, semaphore}
 use Rattle.spec_kernel.specs.Conditions.{readyFor}
 use Rattle.spec_moves.specs.Standing.{threadsOf, Standing}
@@ -62,14 +63,14 @@ module _ {w : ℕ → Bool} {k : Kernel} (C : Core w k) where
       aged-wakes W (passes-standing S)
 
 -- ---- semaphores
-pulse-woke : {k u : Kernel} → Woke k u → (i : ℕ) → i < 16 → Woke k (pulse i u)
+pulse-woke : {k u : Kernel} → Woke k u → (i : ℕ) → i < semaphoreCount → Woke k (pulse i u)
 unfolding pulse
 pulse-woke {k} {u} W i b =
     cases (eqb (semaphore u i .period) 0) (λ e. rw e W)
     (λ e. cases (eqb (semaphore u i .ticks) 1) (λ h. rw (e, h) (semaphore-woke (post-woke W i b) i _))
     (λ h. rw (e, h) (semaphore-woke W i _)))
 
-pulses-woke : {k u : Kernel} → Woke k u → (i n : ℕ) → i + n ≤ 16 → Woke k (pulseFrom i n u)
+pulses-woke : {k u : Kernel} → Woke k u → (i n : ℕ) → i + n ≤ semaphoreCount → Woke k (pulseFrom i n u)
 unfolding pulseFrom
 pulses-woke W i zero b = W
 pulses-woke W i (suc n) b = pulses-woke (pulse-woke W i (omega arith)) (suc i) n (omega arith)
@@ -85,11 +86,12 @@ unfolding tick
 kind-1 {k} B {c} A e =
     let v : Kernel = withThreads (timePasses (threadsOf k)) (withUptime (later (k .uptime)) k) in
     let P = passes-wake (B .core) in
-    let W : Woke v (pulseFrom 0 16 v) =
-    pulses-woke (record { threads = none-wakes (P .standing) (P .small); posted = refl; bits = refl; uptime = refl }) 0 16 (omega arith) in
+    let W : Woke v (pulseFrom 0 semaphoreCount v) =
+    pulses-woke (record { threads = none-wakes (P .standing) (P .small); posted = refl; bits = refl; uptime = refl })
+    0 semaphoreCount (omega arith) in
     record {
-      threads = wakes-stay (B .core) c (pulseFrom 0 16 v) (then-wakes P (W .threads));
-      posts = posted-stay k c (pulseFrom 0 16 v) (W .posted);
+      threads = wakes-stay (B .core) c (pulseFrom 0 semaphoreCount v) (then-wakes P (W .threads));
+      posts = posted-stay k c (pulseFrom 0 semaphoreCount v) (W .posted);
       bits = inl (W .bits);
       uptime = earlier-later c e (k .uptime) ∙ ap (earlier c) (W .uptime);
     }

@@ -18,9 +18,10 @@ use Rattle.spec_kernel.specs.declared.records.Thread.{Thread}
 use Rattle.spec_kernel.specs.declared.records.Event.{Event}
 use Rattle.spec_kernel.specs.declared.records.Kernel.{Kernel}
 use Rattle.spec_moves.specs.declared.parts.Threads.{Threads}
+use Rattle.spec_kernel.specs.Sizes.{threadCount, eventCount}
 use Rattle.spec_kernel.specs.Records.{thread, noThread, noEvent}
-use Rattle.spec_kernel.specs.Conditions.{readyFor}
-use Rattle.spec_kernel.specs.Places.{nowhere, homeFor, homeOf, eventHome}
+use Rattle.spec_kernel.specs.Conditions.{readyFor, ofEvents}
+use Rattle.spec_kernel.specs.Places.{nowhere, homeFor, homeOf, home}
 use Rattle.spec_kernel.specs.Truth.{isTrue}
 use Rattle.spec_moves.specs.Moves.{threadIn, relocate}
 use Rattle.spec_moves.specs.Standing.{threadsOf, atHomeIn, Standing}
@@ -28,7 +29,8 @@ use Rattle.spec_moves.proofs.Joins.{past-end}
 use Rattle.spec_moves.proofs.Threads.{relocate-same, relocate-other, relocate-standing}
 use Rattle.spec_calls.specs.declared.call.Call.{Call}
 use Rattle.spec_moves.specs.States.{each}
-use Rattle.spec_events.specs.Events.{wakeIn, wokenIn, workOut, workOutFrom}
+use Rattle.spec_threads.specs.Threads.{wakeIn, wokenIn}
+use Rattle.spec_events.specs.Events.{workOut, workOutFrom}
 use Rattle.proof_rules.proofs.Core.{Core, live-waiter}
 use Rattle.proof_rules.proofs.Wakings.{woken, wakes, asMet, line-standing, line-woken}
 use Rattle.spec_notes.specs.Touched.{touchedThread}
@@ -108,10 +110,10 @@ home-down r s a b = go (r .live) (r .condition) a b
     go true (ForMessage mask) a b = refl
 
 -- only an id has a record that isn't up
-down-low : {p : Threads} {t : ℕ} → Standing p → up (threadIn p t) ≡ false → t < 32
+down-low : {p : Threads} {t : ℕ} → Standing p → up (threadIn p t) ≡ false → t < threadCount
 down-low {p} {t} S d =
-    cases (ltb t 32) (ltb-true t 32)
-    (λ e. absurd (false≢true (sym d ∙ ap up (past-end (p .records) noThread (S .count) (ltb-false t 32 e)))))
+    cases (ltb t threadCount) (ltb-true t threadCount)
+    (λ e. absurd (false≢true (sym d ∙ ap up (past-end (p .records) noThread (S .count) (ltb-false t threadCount e)))))
 
 module _ {p : Threads} (S : Standing p) (s : Small p) (h : ℕ) (a : 256 ≤ h) (b : h < nowhere) where
   abbrev lives : ℕ → Bool
@@ -144,11 +146,11 @@ module _ {p : Threads} (S : Standing p) (s : Small p) (h : ℕ) (a : 256 ≤ h) 
 
 -- ---- events are worked out
 module _ (events : List Event) (bits : ℕ) where
-  pub outs-wake : (i n : ℕ) → i + n ≤ 8 → {p : Threads} → Standing p → Small p → Wakes p (workOutFrom events bits i n p)
+  pub outs-wake : (i n : ℕ) → i + n ≤ eventCount → {p : Threads} → Standing p → Small p → Wakes p (workOutFrom events bits i n p)
   unfolding workOutFrom workOut
   outs-wake i zero b S s = none-wakes S s
   outs-wake i (suc n) b {p} S s =
       let W : Wakes p (workOut events bits i p) =
-      cases (isTrue bits (getD events i noEvent)) (λ e. rw e (line-wakes S s (eventHome i) (omega arith) (omega arith)))
+      cases (isTrue bits (getD events i noEvent)) (λ e. rw e (line-wakes S s (home ofEvents i) (omega arith) (omega arith)))
       (λ e. rw e (none-wakes S s)) in
       then-wakes W (outs-wake (suc i) n (omega arith) (W .standing) (W .small))

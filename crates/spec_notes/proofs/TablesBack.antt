@@ -12,7 +12,7 @@ use borrow.Author.Tests.{ne-eqb, lt-ltb, ltb-true, ltb-false}
 use borrow.Table.Steps.{cases}
 use Rattle.base_queue.specs.declared.Queue.{Queue}
 use Rattle.base_queue.specs.Lists.{keep, count, has, placeOf}
-use Rattle.base_queue.specs.Queues.{items, pack, Tidy}
+use Rattle.base_queue.specs.Queues.{capacity, items, pack, Tidy}
 use Rattle.base_queue.specs.Tables.{one, Placed, oldPlace}
 use Rattle.base_queue.proofs.Counts.{count-head, count-rest, count-at, placeOf-there, placeOf-at, keep-same}
 use Rattle.base_queue.proofs.Tables.{placed-once, placed-past, placed-short}
@@ -25,7 +25,7 @@ place-noted x [] go e = rw e
 place-noted x (y ∷ l) go e = rw e
 
 -- a place is a byte
-pub place-below : (x : ℕ) (l : List ℕ) → length l ≤ 64 → oldPlace x l < 256
+pub place-below : (x : ℕ) (l : List ℕ) → length l ≤ capacity → oldPlace x l < 256
 place-below x l s =
     cases (has x l) (λ e. rw e (omega (arith, placeOf-there x l (ltb-true 0 (count x l) e) .0))) (λ e. rw e (omega arith))
 
@@ -99,7 +99,7 @@ module _ (touched : ℕ → Bool) where
         ∙ merge-back m old l s (λ x c. omega (arith, ids x c)) old-noted
 
 -- ---- records that say of themselves whether they belong into the table
-module _ {A : Type 0} (belongs : A → Bool) (none : A) (out : belongs none ≡ false) (n : ℕ) (few : n ≤ 64) where
+module _ {A : Type 0} (belongs : A → Bool) (none : A) (out : belongs none ≡ false) (n : ℕ) (few : n ≤ capacity) where
   abbrev member : List A → ℕ → Bool
   member records x = belongs (getD records x none)
 
@@ -114,14 +114,14 @@ module _ {A : Type 0} (belongs : A → Bool) (none : A) (out : belongs none ≡ 
   pub table-back : (touched : ℕ → Bool) (old new : List A) (q q′ : Queue) {out at : List ℕ} → length old ≡ n → length new ≡ n → Tidy q
       → Placed (member old) (items q) → Placed (member new) (items q′)
       → keep (λ x. not (touched x)) (items q′) ≡ keep (λ x. not (touched x)) (items q)
-      → out ≡ each touched (λ i l. set l i 1) 0 n (replicate 64 0)
-      → at ≡ each touched (λ i l. set l (oldPlace i (items q)) i) 0 n (replicate 64 255) → putBackAll out at q′ ≡ q
+      → out ≡ each touched (λ i l. set l i 1) 0 n (replicate capacity 0)
+      → at ≡ each touched (λ i l. set l (oldPlace i (items q)) i) 0 n (replicate capacity 255) → putBackAll out at q′ ≡ q
   unfolding putBackAll
   table-back touched old new q q′ s s′ tidy P P′ framed o a =
       let l = items q in
       let short = placed-short (member old) l n (past old s) P in
       ap₂ (λ out at. putBackAll out at q′) o a
       ∙ ap pack
-      (merged touched n 64 l (placed-once (member old) l P) (ids old l s P) (omega arith) (omega arith) (items q′) few
+      (merged touched n capacity l (placed-once (member old) l P) (ids old l s P) (omega arith) (omega arith) (items q′) few
       (ids new (items q′) s′ P′) framed)
       ∙ tidy

@@ -7,7 +7,7 @@ use native.Mathlib.Nat.{le-refl}
 use native.Mathlib.Omega.{arith}
 use lib.Dec.{ltb}
 use lib.ListN.{set, replicate, length-map}
-use Rattle.base_queue.specs.Queues.{items}
+use Rattle.base_queue.specs.Queues.{capacity, items}
 use Rattle.base_queue.specs.Tables.{oldPlace}
 use Rattle.base_queue.proofs.Queues.{length-items}
 use Rattle.spec_kernel.specs.declared.records.Condition.{Condition}
@@ -15,8 +15,10 @@ use Rattle.spec_kernel.specs.declared.records.Condition.the-variants.{Ready, As
 use Rattle.spec_kernel.specs.declared.records.Object.{Object}
 use Rattle.spec_kernel.specs.declared.records.Wake.{Wake}
 use Rattle.spec_kernel.specs.declared.records.Kernel.{Kernel}
+use Rattle.spec_kernel.specs.Sizes.{threadCount}
 use Rattle.spec_kernel.specs.Records.{thread, noThread}
 use Rattle.spec_kernel.specs.Places.{homeOf, hasHome}
+use Rattle.spec_moves.specs.Standing.{threadsOf}
 use Rattle.spec_rules.specs.Rules.{Sized, Rules, DeadThreads}
 use Rattle.spec_rules.proofs.FromRules.{standing}
 use Rattle.spec_calls.specs.declared.call.Call.{Call}
@@ -49,6 +51,9 @@ neither false b h = absurd (false≢true (sym h))
 module _ (k : Kernel) (c : Call) (k′ : Kernel) where
   abbrev touched : ℕ → Bool
   touched = touchedThread k c k′
+
+  abbrev entry : ℕ → List ℕ
+  entry = threadEntry c (threadsOf k) (k′ .threads)
 
   -- what an entry gives
   abbrev step : ℕ → Threading → Threading
@@ -89,8 +94,8 @@ module _ (k : Kernel) (c : Call) (k′ : Kernel) where
         go C (ForMessage mask) h = tt
 
     next : (n t : ℕ) (rest : List ℕ) (a : Threading)
-        → readThreads (suc n) c (k′ .threads) (threadEntry k c k′ t ++ rest) a ≡ readThreads n c (k′ .threads) rest (step t a)
-    unfolding readThreads threadEntry DeadThreads
+        → readThreads (suc n) c (k′ .threads) (entry t ++ rest) a ≡ readThreads n c (k′ .threads) rest (step t a)
+    unfolding readThreads DeadThreads
     next n t rest a =
         rw (rest-back (_ ∷ _ ∷ []) rest (fits t), row-back rest (fits t), thread-back (thread k t) _ _ (R .deadThreads t) (byte-id t))
 
@@ -100,14 +105,19 @@ module _ (k : Kernel) (c : Call) (k′ : Kernel) where
 
     part : {B : Type 0} (f : Threading → B) (put : ℕ → B → B) → ((t : ℕ) (a : Threading) → f (step t a) ≡ put t (f a))
         → f read
-        ≡ each touched put 0 32
-        (f (record { threads = map (youngerThread c) (k′ .threads); out = replicate 64 0; at = replicate 64 255; due = replicate 64 255 }))
-    unfolding threadsBefore threadsSection readThreads threadEntry
+        ≡ each touched put 0 threadCount
+        (f (record {
+          threads = map (youngerThread c) (k′ .threads);
+          out = replicate capacity 0;
+          at = replicate capacity 255;
+          due = replicate capacity 255;
+        }))
+    unfolding threadsBefore threadsSection readThreads touchedThread
     part f put h =
-        read-part (λ n. readThreads n c (k′ .threads)) touched (threadEntry k c k′) step (λ _. refl) (λ _. refl)
-        (λ _ _. refl) next f put h _ 32 _ (le-refl _)
+        read-part (λ n. readThreads n c (k′ .threads)) touched entry step (λ _. refl) (λ _. refl)
+        (λ _ _. refl) next f put h _ threadCount _ (le-refl _)
 
-    out : read .out ≡ each touched (λ t l. set l t 1) 0 32 (replicate 64 0)
+    out : read .out ≡ each touched (λ t l. set l t 1) 0 threadCount (replicate capacity 0)
     out = part (λ a. a .out) (λ t l. set l t 1) (λ _ _. refl)
 
     module _ (Z′ : Sized k′) (R′ : Rules k′) where
@@ -120,7 +130,7 @@ module _ (k : Kernel) (c : Call) (k′ : Kernel) where
       pub threads-back : read .threads ≡ k .threads
       threads-back =
           part (λ a. a .threads) (λ t l. set l t (thread k t)) (λ _ _. refl)
-          ∙ records-back touched noThread 32 (k .threads) (map (youngerThread c) (k′ .threads)) (Z .threads)
+          ∙ records-back touched noThread threadCount (k .threads) (map (youngerThread c) (k′ .threads)) (Z .threads)
           (length-map (k′ .threads) _ ∙ Z′ .threads)
           (λ t b e. getD-map (youngerThread c) (k′ .threads) t noThread (rw (Z′ .threads) b) ∙ untouched t e)
 
@@ -129,13 +139,15 @@ module _ (k : Kernel) (c : Call) (k′ : Kernel) where
         unfolding homeOf
         places-back =
             let S = standing k Z R in
-            table-back hasHome noThread refl 32 (omega arith) touched (k .threads) (k′ .threads) (k .places) (k′ .places) (Z .threads)
+            table-back hasHome noThread refl threadCount (omega arith) touched (k .threads) (k′ .threads) (k .places) (k′ .places)
+            (Z .threads)
             (Z′ .threads)
             (S .tidyPlaces) (S .placed) (standing k′ Z′ R′ .placed) (F .places) out (part (λ a. a .at) (λ t l. set l _ t) (λ _ _. refl))
 
         pub time-back : putBackAll (read .out) (read .due) (k′ .time) ≡ k .time
         time-back =
             let S = standing k Z R in
-            table-back (λ r. ltb 0 (r .ticks)) noThread refl 32 (omega arith) touched (k .threads) (k′ .threads) (k .time) (k′ .time)
+            table-back (λ r. ltb 0 (r .ticks)) noThread refl threadCount (omega arith) touched (k .threads) (k′ .threads) (k .time)
+            (k′ .time)
             (Z .threads) (Z′ .threads)
             (S .tidyTime) (S .timed) (standing k′ Z′ R′ .timed) (F .time) out (part (λ a. a .due) (λ t l. set l _ t) (λ _ _. refl))

@@ -12,6 +12,7 @@ use borrow.Table.Steps.{cases}
 use Rattle.spec_kernel.specs.declared.records.Thread.{Thread}
 use Rattle.spec_kernel.specs.declared.records.Semaphore.{Semaphore}
 use Rattle.spec_kernel.specs.declared.records.Kernel.{Kernel}
+use Rattle.spec_kernel.specs.Sizes.{threadCount, semaphoreCount}
 use Rattle.spec_kernel.specs.Records.{thread, semaphore, noThread, noSemaphore}
 use Rattle.spec_kernel.specs.Places.{semaphoreQueue}
 use Rattle.spec_moves.specs.Moves.{relocate}
@@ -41,7 +42,7 @@ module _ (t b : ℕ) where
     where
       go : (q : List ℕ) → Few (postTo q i u)
       go [] = h
-      go (x ∷ q) = cases (ltb x 32) (λ e. rw e (few-set (u .threads) x _ (omega arith) h)) (λ e. rw e h)
+      go (x ∷ q) = cases (ltb x threadCount) (λ e. rw e (few-set (u .threads) x _ (omega arith) h)) (λ e. rw e h)
 
   few-pulse : (i : ℕ) (u : Kernel) → Few u → Few (pulse i u)
   unfolding pulse
@@ -57,7 +58,7 @@ module _ (t b : ℕ) where
 pub tick-threads : (k : Kernel) (c : Call) → Standing (threadsOf k) → (t : ℕ) → thread (tick k c) t .ticks ≤ thread k t .ticks - 1
 unfolding tick
 tick-threads k c S t =
-    few-pulses t (thread k t .ticks - 1) 0 16 _
+    few-pulses t (thread k t .ticks - 1) 0 semaphoreCount _
     (rw (passes-record S t) (cases (eqb (thread k t .ticks) 1) (λ e. rw e (omega arith)) (λ e. rw e (omega arith))))
 
 -- ---- semaphores
@@ -107,6 +108,6 @@ pulses-own i j (suc n) u a b =
     (λ e. let ne = eqb-false i j e in
     rw (pulse-other i j u ne) at (pulses-own i (suc j) n (pulse j u) (omega arith) (omega arith)))
 
-pub tick-semaphores : (k : Kernel) (c : Call) (i : ℕ) → i < 16 → Aged (semaphore k i) (semaphore (tick k c) i)
+pub tick-semaphores : (k : Kernel) (c : Call) (i : ℕ) → i < semaphoreCount → Aged (semaphore k i) (semaphore (tick k c) i)
 unfolding tick
-tick-semaphores k c i b = pulses-own i 0 16 _ (omega arith) (omega arith)
+tick-semaphores k c i b = pulses-own i 0 semaphoreCount _ (omega arith) (omega arith)

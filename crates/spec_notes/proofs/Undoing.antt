@@ -1,12 +1,12 @@
 -- An undo is accepted exactly where an earlier state and a call lead to this end state with this note [01, table: number 15].
-use Prim.Native.Nat.{ℕ, _+_, _-_, _≤_, _<_}
+use Prim.Native.Nat.{ℕ, zero, suc, _+_, _-_, _≤_, _<_}
 use mathlib.Core.Path.{_≡_, sym, ap, _∙_}
 use mathlib.Core.Bool.{Bool, true, false, cond, and-true, and-eq-true-iff}
 use mathlib.Core.List.{List, []}
 use mathlib.Core.Logic.{_↔_}
 use native.Mathlib.Omega.{arith}
 use lib.Dec.{eqb, ltb}
-use lib.ListN.{length, drop, length-take, length-drop}
+use lib.ListN.{length, getD, drop, length-take, length-drop}
 use lib.Seq.{length-take-le}
 use borrow.Author.Tests.{eqb-true, eq-eqb, ltb-true, lt-ltb, leb-true}
 use borrow.Table.Steps.{cases}
@@ -23,12 +23,11 @@ use Rattle.spec_moves.specs.States.{scheduled}
 use Rattle.spec_effects.specs.Effects.{effect}
 use Rattle.proof_rules.proofs.Ends.{before}
 use Rattle.proof_rules.proofs.Kept.{rules-kept}
-use Rattle.spec_notes.specs.Notes.{noteOf}
-use Rattle.spec_notes.specs.Back as Back
-use Rattle.spec_notes.specs.Back.{bitChanged, bitsBefore, earlier, Sections, stateBefore}
+use Rattle.spec_notes.specs.Notes.{sectionCount, threadsIn, semaphoresIn, eventsIn, messagesIn, noteOf, leastNote}
+use Rattle.spec_notes.specs.Back.{bitChanged, bitsBefore, earlier, threadsBack, postsBack, beforeAt, stateBefore}
 use Rattle.spec_notes.specs.Within.{Within}
 use Rattle.spec_notes.specs.Frames.{nothing, sections, firstSection, behindSection}
-use Rattle.spec_notes.specs.Frames.{areWhole, sectionsAt, framesFrom, framesOf, sectionsIn}
+use Rattle.spec_notes.specs.Frames.{sectionsAt, areWhole, sectionBytes, framesOf, sectionsIn}
 use Rattle.spec_notes.specs.Undo.{lastLength, hasLast, lastNote, Yields}
 use Rattle.spec_notes.specs.Undoes.{callBytes, backFrom, isDecoded, levelsFit, yieldsAgain, undoesNote, undoes}
 use Rattle.spec_notes.proofs.Limits.{Limits, limits-within}
@@ -42,62 +41,50 @@ use Rattle.spec_notes.proofs.FramesRead.{frames-back, note-sizes}
 use Rattle.spec_notes.proofs.Yields.{yields-call, yields-back}
 
 -- ---- the bytes of the sections
-abbrev SmallSections : Sections → Type 0
-SmallSections x = Bytes (x .scheduler) × Bytes (x .threads) × Bytes (x .semaphores) × Bytes (x .events) × Bytes (x .messages)
+abbrev SmallSections : List (List ℕ) → Type 0
+SmallSections x = (i : ℕ) → Bytes (getD x i [])
 
-first-bytes : (s : List ℕ) → Bytes s → Bytes (firstSection s)
-unfolding firstSection
-first-bytes s h = take-bytes (un 2 s) (drop 2 s) (drop-bytes 2 s h)
+sections-bytes : (n : ℕ) (s : List ℕ) → Bytes s → SmallSections (sectionsAt n s)
+unfolding sectionsAt firstSection behindSection
+sections-bytes zero s h i = λ j. omega arith
+sections-bytes (suc n) s h zero = take-bytes (un 2 s) (drop 2 s) (drop-bytes 2 s h)
+sections-bytes (suc n) s h (suc i) = sections-bytes n _ (drop-bytes (2 + un 2 s) s h) i
 
-behind-bytes : (s : List ℕ) → Bytes s → Bytes (behindSection s)
-unfolding behindSection
-behind-bytes s h = drop-bytes (2 + un 2 s) s h
-
-chosen-sections : (b : Bool) (x : Sections) → SmallSections x → SmallSections (sectionsIn (cond b (sections x) nothing))
+chosen-sections : (b : Bool) (x : List (List ℕ)) → SmallSections x → SmallSections (sectionsIn (cond b (sections x) nothing))
 chosen-sections true x h = h
-chosen-sections false x h = ((λ i. omega arith), (λ i. omega arith), (λ i. omega arith), (λ i. omega arith), (λ i. omega arith))
+chosen-sections false x h = λ i j. omega arith
 
 frames-bytes : (note : List ℕ) → Bytes note → SmallSections (sectionsIn (framesOf note))
-unfolding framesOf framesFrom
+unfolding framesOf sectionBytes
 frames-bytes note h =
-    let a = drop 16 note in
-    let b = behindSection a in
-    let c = behindSection b in
-    let d = behindSection c in
-    let e = behindSection d in
-    let a′ = drop-bytes 16 note h in
-    let b′ = behind-bytes a a′ in
-    let c′ = behind-bytes b b′ in
-    let d′ = behind-bytes c c′ in
-    let e′ = behind-bytes d d′ in
-    chosen-sections (areWhole a b c d e (behindSection e)) (sectionsAt a b c d e)
-    (first-bytes a a′, first-bytes b b′, first-bytes c c′, first-bytes d d′, first-bytes e e′)
+    let s = sectionBytes note in
+    chosen-sections (areWhole sectionCount s) (sectionsAt sectionCount s)
+    (sections-bytes sectionCount s (take-bytes (length note - 2 - 16) (drop 16 note) (drop-bytes 16 note h)))
 
 -- ---- the state that is put back
-module _ (c : Call) (k′ : Kernel) (x : Sections) (Z : Sized k′) (W : Within k′) (S : SmallSections x) where
+module _ (c : Call) (k′ : Kernel) (x : List (List ℕ)) (Z : Sized k′) (W : Within k′) (S : SmallSections x) where
   back-sized : Sized (stateBefore c k′ x)
-  unfolding stateBefore Back.before
+  unfolding stateBefore scheduled beforeAt threadsBack postsBack
   back-sized =
-      let (_, t, _, _, m) = S in
       record {
-        threads = threads-sized c (k′ .threads) (λ t. (W .ticks t, W .priority t)) (x .threads) ∙ Z .threads;
-        semaphores = semaphores-sized c (k′ .semaphores) (λ i. (W .maximum i, W .left i, W .period i)) (x .semaphores) ∙ Z .semaphores;
-        events = events-sized (k′ .events) (λ i. (W .mask i, W .values i)) (x .events) ∙ Z .events;
+        threads = threads-sized c (k′ .threads) (λ t. (W .ticks t, W .priority t)) (threadsIn x) ∙ Z .threads;
+        semaphores = semaphores-sized c (k′ .semaphores) (λ i. (W .maximum i, W .left i, W .period i)) (semaphoresIn x) ∙ Z .semaphores;
+        events = events-sized (k′ .events) (λ i. (W .mask i, W .values i)) (eventsIn x) ∙ Z .events;
         messages =
-            messages-sized c (k′ .runner) (k′ .messages) (λ m. (W .kind m, W .size m, W .address m, W .channel m)) (x .messages)
+            messages-sized c (k′ .runner) (k′ .messages) (λ m. (W .kind m, W .size m, W .address m, W .channel m)) (messagesIn x)
             ∙ Z .messages;
         places = back-full _ _ (k′ .places);
         time = back-full _ _ (k′ .time);
         posted = back-full _ _ (k′ .posted);
-        priorities = λ i. threads-any c (k′ .threads) (λ t. (W .ticks t, W .priority t)) (x .threads) t i .1;
+        priorities = λ i. threads-any c (k′ .threads) (λ t. (W .ticks t, W .priority t)) (threadsIn x) (S _) i .1;
         channels = λ i.
-            messages-any c (k′ .runner) (k′ .messages) (λ m. (W .kind m, W .size m, W .address m, W .channel m)) (x .messages) m i .3;
+            messages-any c (k′ .runner) (k′ .messages) (λ m. (W .kind m, W .size m, W .address m, W .channel m)) (messagesIn x) (S _) i .3;
       }
 
-  bits-small : bitsBefore c (k′ .bits) (x .events) < 4294967296
+  bits-small : bitsBefore c (k′ .bits) (eventsIn x) < 4294967296
   unfolding bitsBefore
   bits-small =
-      cases (bitChanged (x .events))
+      cases (bitChanged (eventsIn x))
       (λ e. rw e (cases (bitAt (k′ .bits) (c .a)) (λ b. rw b (without-small (k′ .bits) (c .a) (W .bits))) (λ b. rw b (with-small (k′ .bits)
       (c .a) (W .bits)))))
       (λ e. rw e (W .bits))
@@ -109,17 +96,16 @@ module _ (c : Call) (k′ : Kernel) (x : Sections) (Z : Sized k′) (W : Within 
       (λ e. rw e (cases (eqb (k′ .uptime) 0) (λ z. rw z (omega arith)) (λ z. rw z (omega arith)))) (λ e. rw e u)
 
   back-limits : levelsFit (stateBefore c k′ x) ≡ true → Limits (stateBefore c k′ x)
-  unfolding stateBefore Back.before levelsFit
+  unfolding stateBefore scheduled beforeAt threadsBack postsBack levelsFit
   back-limits h =
-      let (_, t, s, e, m) = S in
       let (u, v) = and-eq-true-iff (ltb (stateBefore c k′ x .unscheduled) 256) (ltb (stateBefore c k′ x .critical) 256) .0 h in
       record {
-        threads = λ i. threads-any c (k′ .threads) (λ t. (W .ticks t, W .priority t)) (x .threads) t i .0;
-        semaphores = semaphores-any c (k′ .semaphores) (λ i. (W .maximum i, W .left i, W .period i)) (x .semaphores) s;
-        events = events-any (k′ .events) (λ i. (W .mask i, W .values i)) (x .events) e;
+        threads = λ i. threads-any c (k′ .threads) (λ t. (W .ticks t, W .priority t)) (threadsIn x) (S _) i .0;
+        semaphores = semaphores-any c (k′ .semaphores) (λ i. (W .maximum i, W .left i, W .period i)) (semaphoresIn x) (S _);
+        events = events-any (k′ .events) (λ i. (W .mask i, W .values i)) (eventsIn x) (S _);
         messages = λ i.
             let (a, b, d, _) =
-            messages-any c (k′ .runner) (k′ .messages) (λ m. (W .kind m, W .size m, W .address m, W .channel m)) (x .messages) m i in
+            messages-any c (k′ .runner) (k′ .messages) (λ m. (W .kind m, W .size m, W .address m, W .channel m)) (messagesIn x) (S _) i in
             (a, b, d);
         bits = bits-small;
         scheduler = (earlier-small, ltb-true _ 256 u, ltb-true _ 256 v);
@@ -206,13 +192,13 @@ module _ (log : List ℕ) (used : ℕ) where
       cases (hasLast log used) (λ e. rw e (take-bytes n (drop (used - n) log) (drop-bytes (used - n) log h))) (λ e. rw e (λ i. omega arith))
 
   pub last-sizes : hasLast log used ≡ true
-      → (length (lastNote log used) ≡ lastLength log used) × (28 ≤ lastLength log used) × (lastLength log used ≤ used)
+      → (length (lastNote log used) ≡ lastLength log used) × (leastNote ≤ lastLength log used) × (lastLength log used ≤ used)
   unfolding lastNote hasLast
   last-sizes h =
       let n = lastLength log used in
       let (((_, b), c), d) = simp and-eq-true-iff at h in
       let b′ = leb-true used (length log) b in
-      let c′ = leb-true 28 n c in
+      let c′ = leb-true leastNote n c in
       let d′ = leb-true n used d in
       (rw h (simp (length-take, length-drop) (omega arith)), c′, d′)
 

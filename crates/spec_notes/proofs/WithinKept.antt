@@ -9,6 +9,7 @@ use borrow.Table.Steps.{cases}
 use Rattle.base_bits.proofs.Laws.{with-small, without-small}
 use Rattle.spec_kernel.specs.declared.records.Condition.{Condition}
 use Rattle.spec_kernel.specs.declared.records.Kernel.{Kernel}
+use Rattle.spec_kernel.specs.Sizes.{semaphoreCount, eventCount}
 use Rattle.spec_kernel.specs.Records.{thread, semaphore, event, message, noThread, noMessage}
 use Rattle.spec_kernel.specs.Places.{semaphoreQueue}
 use Rattle.spec_kernel.specs.Truth.{isTrue}
@@ -62,7 +63,8 @@ module _ {k : Kernel} (L : Limits k) where
   worked-limits : Standing (threadsOf k) → Limits (workedOut k)
   unfolding workedOut
   worked-limits S =
-      threads-limits L _ (λ t. outs-last (k .events) (k .bits) SmallThread (λ _ _ _. omega arith) 0 8 (omega arith) S t (L .threads t))
+      threads-limits L _ (λ t. outs-last (k .events) (k .bits) SmallThread (λ _ _ _. omega arith) 0 eventCount (omega arith) S t
+      (L .threads t))
 
 pulse-limits : {k : Kernel} → Limits k → (i : ℕ) → Limits (pulse i k)
 unfolding pulse
@@ -96,7 +98,7 @@ module _ {k : Kernel} (L : Limits k) where
       (threads-limits M (timePasses (threadsOf k))
       (λ t. rw (passes-record S t)
       (cases (eqb (thread k t .ticks) 1) (λ e. rw e (omega arith)) (λ e. rw e (omega (arith, L .threads t))))))
-      0 16
+      0 semaphoreCount
 
   post-message-limits : (c : Call) → Limits (postMessage k c)
   unfolding postMessage handOver

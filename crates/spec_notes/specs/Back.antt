@@ -6,7 +6,7 @@ use lib.Dec.{eqb}
 use lib.ListN.{length, getD, set, drop, replicate}
 use Rattle.base_queue.specs.declared.Queue.{Queue}
 use Rattle.base_queue.specs.Lists.{keep}
-use Rattle.base_queue.specs.Queues.{items, pack}
+use Rattle.base_queue.specs.Queues.{capacity, items, pack}
 use Rattle.base_bits.specs.Words.{bitAt, withBit, withoutBit}
 use Rattle.base_rows.specs.Rows.{usedBy, rowFrom}
 use Rattle.spec_kernel.specs.declared.records.Thread.{Thread}
@@ -15,14 +15,17 @@ use Rattle.spec_kernel.specs.declared.records.Event.{Event}
 use Rattle.spec_kernel.specs.declared.records.Message.{Message}
 use Rattle.spec_kernel.specs.declared.records.Kernel.{Kernel}
 use Rattle.spec_kernel.specs.Records.{noThread, noSemaphore, noEvent, noMessage}
-use Rattle.spec_kernel.specs.Runner.{chosen}
-use Rattle.spec_moves.specs.States.{withRunner}
+use Rattle.spec_moves.specs.declared.parts.Threads.{Threads}
+use Rattle.spec_moves.specs.declared.parts.Posts.{Posts}
+use Rattle.spec_moves.specs.Standing.{threadsOf, postsOf}
+use Rattle.spec_moves.specs.States.{stateOf, scheduled}
 use Rattle.spec_calls.specs.declared.call.Call.{Call}
 use Rattle.spec_refusals.specs.Refusals.{is}
 use Rattle.spec_notes.specs.Rows.{threadFrom, threadWidths, semaphoreFrom, semaphoreWidths}
 use Rattle.spec_notes.specs.Rows.{eventFrom, eventWidths, messageFrom, messageWidths, schedulerWidths}
 use Rattle.spec_notes.specs.Touched.{youngerThread, youngerSemaphore}
-use Rattle.spec_notes.specs.Predicted.{predictedThread, predictedSemaphore, predictedEvent, predictedMessage, predictedScheduler}
+use Rattle.spec_notes.specs.Predicted.{predictedThread, predictedSemaphore, predictedEvent, predictedMessage, predictedLevels}
+use Rattle.spec_notes.specs.Notes.{schedulerIn, threadsIn, semaphoresIn, eventsIn, messagesIn}
 
 -- ---- a table of places: who was touched is out, and back at its old place
 -- place by place: the noted member of that place, or else the next one that stayed
@@ -35,7 +38,7 @@ merge (suc n) at l = fillPlace (getD at 0 255) l (merge n (drop 1 at))
 
 -- `at` has at each old place who stood there (255: nobody touched), `out` says of each id whether it was touched
 unfoldable pub putBackAll : List ℕ → List ℕ → Queue → Queue
-putBackAll out at q = pack (merge 64 at (keep (λ x. eqb (getD out x 0) 0) (items q)))
+putBackAll out at q = pack (merge capacity at (keep (λ x. eqb (getD out x 0) 0) (items q)))
 
 -- ---- threads
 -- the records so far, who was touched, and who stood at each place of `places` and of the time queue
@@ -69,9 +72,9 @@ threadsBefore c new s =
     readThreads (length s) c new s
     (record {
       threads = map (youngerThread c) new;
-      out = replicate 64 0;
-      at = replicate 64 255;
-      due = replicate 64 255;
+      out = replicate capacity 0;
+      at = replicate capacity 255;
+      due = replicate capacity 255;
     })
 
 -- ---- semaphores
@@ -132,51 +135,52 @@ readMessages (suc n) c runner new (m ∷ s) a =
 unfoldable pub messagesBefore : Call → ℕ → List Message → List ℕ → Filing
 messagesBefore c runner new s =
     readMessages (length s) c runner new s
-    (record { messages = new; out = replicate 64 0; at = replicate 64 255 })
+    (record { messages = new; out = replicate capacity 0; at = replicate capacity 255 })
 
 -- ---- the scheduler
-unfoldable pub schedulerBefore : Call → Kernel → List ℕ → List ℕ
-schedulerBefore c k′ s = rowFrom schedulerWidths (getD s 0 0) (predictedScheduler c k′) (drop 1 s)
+-- levels and runner, of those after the call
+unfoldable pub levelsBefore : Call → ℕ → ℕ → ℕ → List ℕ → List ℕ
+levelsBefore c unscheduled critical runner s =
+    rowFrom schedulerWidths (getD s 0 0) (predictedLevels c unscheduled critical runner) (drop 1 s)
 
 -- uptime wraps backwards too
 abbrev pub earlier : Call → ℕ → ℕ
 earlier c uptime = cond (is c 1) (cond (eqb uptime 0) 4294967295 (uptime - 1)) uptime
 
--- the bytes of the five sections
-pub record Sections : Type 0 where
-  pub scheduler : List ℕ
-  pub threads : List ℕ
-  pub semaphores : List ℕ
-  pub events : List ℕ
-  pub messages : List ℕ
-
--- everything but who ran
-unfoldable pub before : Call → Kernel → Sections → Kernel
-before c k′ x =
+-- ---- the state, of the note's sections
+-- the part that threads move in
+unfoldable pub threadsBack : Call → Threads → List ℕ → Threads
+threadsBack c p s =
     record {
-      threads = threadsBefore c (k′ .threads) (x .threads) .threads;
-      semaphores = semaphoresBefore c (k′ .semaphores) (x .semaphores);
-      events = eventsBefore (k′ .events) (x .events);
-      messages = messagesBefore c (k′ .runner) (k′ .messages) (x .messages) .messages;
-      places =
-          putBackAll (threadsBefore c (k′ .threads) (x .threads) .out) (threadsBefore c (k′ .threads) (x .threads) .at)
-          (k′ .places);
-      time =
-          putBackAll (threadsBefore c (k′ .threads) (x .threads) .out) (threadsBefore c (k′ .threads) (x .threads) .due)
-          (k′ .time);
-      posted =
-          putBackAll (messagesBefore c (k′ .runner) (k′ .messages) (x .messages) .out)
-          (messagesBefore c (k′ .runner) (k′ .messages) (x .messages) .at) (k′ .posted);
-      bits = bitsBefore c (k′ .bits) (x .events);
-      uptime = earlier c (k′ .uptime);
-      unscheduled = getD (schedulerBefore c k′ (x .scheduler)) 0 0;
-      critical = getD (schedulerBefore c k′ (x .scheduler)) 1 0;
-      runner = getD (schedulerBefore c k′ (x .scheduler)) 2 0;
+      records = threadsBefore c (p .records) s .threads;
+      places = putBackAll (threadsBefore c (p .records) s .out) (threadsBefore c (p .records) s .at) (p .places);
+      time = putBackAll (threadsBefore c (p .records) s .out) (threadsBefore c (p .records) s .due) (p .time);
     }
 
+-- the part that messages move in
+unfoldable pub postsBack : Call → ℕ → Posts → List ℕ → Posts
+postsBack c runner p s =
+    record {
+      records = messagesBefore c runner (p .records) s .messages;
+      posted = putBackAll (messagesBefore c runner (p .records) s .out) (messagesBefore c runner (p .records) s .at) (p .posted);
+    }
+
+-- everything, with levels and runner as they are given
+unfoldable pub beforeAt : Call → Kernel → List (List ℕ) → ℕ → ℕ → ℕ → Kernel
+beforeAt c k′ x unscheduled critical runner =
+    stateOf
+    (threadsBack c (threadsOf k′) (threadsIn x))
+    (semaphoresBefore c (k′ .semaphores) (semaphoresIn x))
+    (eventsBefore (k′ .events) (eventsIn x))
+    (bitsBefore c (k′ .bits) (eventsIn x))
+    (postsBack c (k′ .runner) (postsOf k′) (messagesIn x))
+    (earlier c (k′ .uptime))
+    unscheduled
+    critical
+    runner
+
 -- Who ran: outside every region the first ready thread of the old state, inside one the noted thread [01, state 8].
-unfoldable pub stateBefore : Call → Kernel → Sections → Kernel
+unfoldable pub stateBefore : Call → Kernel → List (List ℕ) → Kernel
 stateBefore c k′ x =
-    withRunner
-    (cond (eqb (before c k′ x .unscheduled + before c k′ x .critical) 0) (chosen (before c k′ x)) (before c k′ x .runner))
-    (before c k′ x)
+    let levels = levelsBefore c (k′ .unscheduled) (k′ .critical) (k′ .runner) (schedulerIn x) in
+    scheduled (beforeAt c k′ x (getD levels 0 0) (getD levels 1 0) (getD levels 2 0))

@@ -5,6 +5,7 @@ use mathlib.Core.List.{List, [], _∷_}
 use Rattle.base_queue.specs.Tables.{one}
 use Rattle.spec_kernel.specs.declared.records.Message.{Message}
 use Rattle.spec_kernel.specs.declared.records.Kernel.{Kernel}
+use Rattle.spec_kernel.specs.Sizes.{threadCount, semaphoreCount, messageCount}
 use Rattle.spec_kernel.specs.Records.{thread, semaphore, message}
 use Rattle.spec_notes.specs.Touched.{sameRow, sameThread, sameSemaphore}
 
@@ -21,13 +22,13 @@ unfoldable pub sameMessageRecord : Message → Message → Bool
 sameMessageRecord r s = sameRow (messageFields r) (messageFields s)
 
 unfoldable pub threadsDiffer : Kernel → Kernel → ℕ
-threadsDiffer k k′ = countFrom (λ t. not (sameThread (thread k t) (thread k′ t))) 0 32
+threadsDiffer k k′ = countFrom (λ t. not (sameThread (thread k t) (thread k′ t))) 0 threadCount
 
 unfoldable pub semaphoresDiffer : Kernel → Kernel → ℕ
-semaphoresDiffer k k′ = countFrom (λ i. not (sameSemaphore (semaphore k i) (semaphore k′ i))) 0 16
+semaphoresDiffer k k′ = countFrom (λ i. not (sameSemaphore (semaphore k i) (semaphore k′ i))) 0 semaphoreCount
 
 unfoldable pub messagesDiffer : Kernel → Kernel → ℕ
-messagesDiffer k k′ = countFrom (λ m. not (sameMessageRecord (message k m) (message k′ m))) 0 64
+messagesDiffer k k′ = countFrom (λ m. not (sameMessageRecord (message k m) (message k′ m))) 0 messageCount
 
 -- The most bytes of a note: 96, and for each record that isn't the same in both states 24 more (a thread's) or 16 more (a semaphore's
 -- or a message's) [01, notes 4].

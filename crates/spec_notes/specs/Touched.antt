@@ -70,6 +70,13 @@ changedThread t runner c old new = not (sameThread old (youngerThread c new)) ||
 abbrev pub changedSemaphore : Call → Semaphore → Semaphore → Bool
 changedSemaphore c old new = not (sameSemaphore old (youngerSemaphore c new))
 
+abbrev pub changedEvent : Event → Event → Bool
+changedEvent old new = not (sameEvent old new)
+
+abbrev pub changedMessage : Message → Message → Bool
+changedMessage old new = not (sameMessage old new)
+
+-- ---- the records of an id before and after
 unfoldable pub touchedThread : Kernel → Call → Kernel → ℕ → Bool
 touchedThread k c k′ t = changedThread t (k .runner) c (thread k t) (thread k′ t)
 
@@ -77,7 +84,7 @@ unfoldable pub touchedSemaphore : Kernel → Call → Kernel → ℕ → Bool
 touchedSemaphore k c k′ i = changedSemaphore c (semaphore k i) (semaphore k′ i)
 
 unfoldable pub touchedEvent : Kernel → Call → Kernel → ℕ → Bool
-touchedEvent k c k′ i = not (sameEvent (event k i) (event k′ i))
+touchedEvent k c k′ i = changedEvent (event k i) (event k′ i)
 
 unfoldable pub touchedMessage : Kernel → Call → Kernel → ℕ → Bool
-touchedMessage k c k′ m = not (sameMessage (message k m) (message k′ m))
+touchedMessage k c k′ m = changedMessage (message k m) (message k′ m)

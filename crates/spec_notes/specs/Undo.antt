@@ -12,16 +12,16 @@ use Rattle.spec_calls.specs.Calls.{callOf}
 use Rattle.spec_refusals.specs.Refusals.{numberOf}
 use Rattle.spec_moves.specs.States.{scheduled}
 use Rattle.spec_effects.specs.Effects.{effect}
-use Rattle.spec_notes.specs.Notes.{noteOf}
+use Rattle.spec_notes.specs.Notes.{noteOf, leastNote}
 use Rattle.spec_notes.specs.Within.{Within}
 
 -- The length of the last note, read from the last two of the used bytes [01, notes 2].
 unfoldable pub lastLength : List ℕ → ℕ → ℕ
 lastLength log used = un 2 (drop (used - 2) log)
 
--- a note has 28 bytes at least
+-- whether the used bytes are there, and hold as many as their last two say, which are enough for a note
 unfoldable pub hasLast : List ℕ → ℕ → Bool
-hasLast log used = leb 2 used && leb used (length log) && leb 28 (lastLength log used) && leb (lastLength log used) used
+hasLast log used = leb 2 used && leb used (length log) && leb leastNote (lastLength log used) && leb (lastLength log used) used
 
 -- the last note of the first `used` bytes; empty where there is none
 unfoldable pub lastNote : List ℕ → ℕ → List ℕ

@@ -1,2 +1,4 @@
 pub mod Applies
+pub mod LawsOfValues
 pub mod TableOrder
+pub mod Waiters

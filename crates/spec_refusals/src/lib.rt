@@ -1,1 +1,2 @@
-// Document 01's table of refusals: each number with its condition, in table order.
+// What a call names, and document 01's table of refusals over it: each number with its condition, in table order.
+pub mod named;

@@ -15,13 +15,14 @@ use Rattle.spec_kernel.specs.declared.records.Condition.{Condition}
 use Rattle.spec_kernel.specs.declared.records.Condition.the-variants.{Ready, Asleep, ForSemaphore, ForEvent, ForMessage}
 use Rattle.spec_kernel.specs.declared.records.Kernel.{Kernel}
 use Rattle.spec_kernel.specs.Records.{thread, semaphore, event, message}
-use Rattle.spec_kernel.specs.Conditions.{awaits, masks}
+use Rattle.spec_kernel.specs.Sizes.{eventCount}
+use Rattle.spec_kernel.specs.Conditions.{ofSemaphores, ofEvents, awaits, masks}
 use Rattle.spec_kernel.specs.Places.{homeOf, rankOf, semaphoreQueue, eventQueue, isQueued, channel}
 use Rattle.spec_kernel.specs.Truth.{isTrue}
 use Rattle.spec_kernel.specs.Runner.{chosen, firstReady}
 use Rattle.spec_moves.specs.Standing.{threadsOf, postsOf, Standing, Filed}
 use Rattle.spec_rules.specs.Rules.{Sized, Rules}
-use Rattle.spec_rules.specs.Rules.{SemaphorePlaces, EventPlaces, LiveSemaphores, LiveEvents}
+use Rattle.spec_rules.specs.Rules.{WaitingPlaces, LiveObjects}
 use Rattle.spec_rules.specs.Rules.{UnusedStore, TimePlaces, WaitingOrder, TimeOrder, StoreOrder}
 use Rattle.spec_rules.specs.Rules.{WaitersAtZero, CountsAtMost, TrueWithoutWaiters}
 use Rattle.spec_rules.specs.Rules.{NoneAwaited, LiveOwners, ChannelPlaces, NoOtherPosts}
@@ -43,17 +44,17 @@ awaited (ForMessage mask) n h = (mask, refl, h)
 module _ (k : Kernel) (Z : Sized k) (R : Rules k) where
   -- ---- the records
   condition-of : (t : ℕ) → thread k t .live ≡ true → (c : Condition) → thread k t .condition ≡ c → ConditionKept k (thread k t .ticks) c
-  unfolding SemaphorePlaces EventPlaces LiveSemaphores LiveEvents WaitersAtZero TrueWithoutWaiters MaskSizes TicksLeft OtherTicks
+  unfolding WaitingPlaces LiveObjects WaitersAtZero TrueWithoutWaiters MaskSizes TicksLeft OtherTicks
   condition-of t l Ready e = R .otherTicks t (rw (l, e))
   condition-of t l Asleep e = R .ticksLeft t (rw (l, e))
   condition-of t l (ForSemaphore i) e =
-      let s = R .liveSemaphores t i e in
+      let s = R .liveObjects ofSemaphores t i (rw (e, same)) in
       let b = live-below k Z i s in
-      let once : count t (semaphoreQueue k i) ≡ 1 = R .semaphorePlaces t i b ∙ rw (l, e, same) in
+      let once : count t (semaphoreQueue k i) ≡ 1 = R .waitingPlaces ofSemaphores t i b ∙ rw (l, e, same) in
       (s, R .waitersAtZero i b (λ z. omega (arith, rw z at once)))
   condition-of t l (ForEvent i) e =
-      let b = R .liveEvents t i e in
-      let once : count t (eventQueue k i) ≡ 1 = R .eventPlaces t i b ∙ rw (l, e, same) in
+      let b = ltb-true i eventCount (R .liveObjects ofEvents t i (rw (e, same))) in
+      let once : count t (eventQueue k i) ≡ 1 = R .waitingPlaces ofEvents t i b ∙ rw (l, e, same) in
       (b, cases (isTrue (k .bits) (event k i)) (λ h. absurd (omega (arith, rw (R .trueWithoutWaiters i b h) at once))) (λ h. h))
   condition-of t l (ForMessage mask) e = R .maskSizes t mask e
 
@@ -109,7 +110,7 @@ module _ (k : Kernel) (Z : Sized k) (R : Rules k) where
     count = Z .threads;
     tidyPlaces = R .unusedStore .0;
     tidyTime = R .unusedStore .1;
-    placed = stands k home (R .readyPlaces) (R .semaphorePlaces) (R .eventPlaces) (R .noOtherPlaces);
+    placed = stands k home (R .readyPlaces) (R .waitingPlaces) (R .noOtherPlaces);
     timed = λ t. R .timePlaces t ∙ ap one (timed k Z kept-thread t);
     inRank =
         pairs-ordered (λ t. homeOf (thread k t)) (λ t. thread k t .priority) (Z .priorities) (items (k .places)) (R .storeOrder .0)

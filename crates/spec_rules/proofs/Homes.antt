@@ -2,6 +2,7 @@
 use Prim.Native.Nat.{ℕ, _+_, _-_, _≤_, _<_}
 use mathlib.Core.Path.{_≡_, refl, ap, _∙_}
 use mathlib.Core.Bool.{Bool, true, false, cond, _&&_, and-true, and-false}
+use mathlib.Core.Logic.{_⊎_, inl, inr, ⊎-elim}
 use native.Mathlib.Omega.{arith}
 use lib.Dec.{eqb, ltb}
 use borrow.Author.Tests.{eqb-true, eqb-false, eq-eqb, ne-eqb, ltb-true, ltb-false}
@@ -15,37 +16,62 @@ use Rattle.spec_kernel.specs.declared.records.Condition.the-variants.{Ready, As
 use Rattle.spec_kernel.specs.declared.records.Thread.{Thread}
 use Rattle.spec_kernel.specs.declared.records.Kernel.{Kernel}
 use Rattle.spec_kernel.specs.Records.{thread, semaphore}
-use Rattle.spec_kernel.specs.Conditions.{isReady, waitsForSemaphore, waitsForEvent}
-use Rattle.spec_kernel.specs.Places.{homeOf, hasHome, atHome, nowhere}
-use Rattle.spec_rules.specs.Rules.{ReadyPlaces, SemaphorePlaces, EventPlaces, NoOtherPlaces}
+use Rattle.spec_kernel.specs.Sizes.{semaphoreCount, priorityCount}
+use Rattle.spec_kernel.specs.Conditions.{isReady, Class, ofSemaphores, ofEvents, idsIn, onObject, waitsFor}
+use Rattle.spec_kernel.specs.Places.{home, homeOf, hasHome, atHome, nowhere}
+use Rattle.spec_rules.specs.Rules.{ReadyPlaces, WaitingPlaces, NoOtherPlaces}
 use Rattle.spec_rules.proofs.OfRecords.{ConditionKept, KeptThread}
 
 -- ---- a thread's home
--- where homes lie
-pub record Within (h : ℕ) : Type 0 where
-  pub low : h < 256 → (1 ≤ h) × (h ≤ 30)
-  pub middle : 256 ≤ h → h < 512 → h < 272
-  pub high : 512 ≤ h → h < nowhere → h < 520
-  pub most : h ≤ nowhere
+-- where homes lie: in the ready lists, in the queue of an object that there is, or nowhere
+pub data Lies (h : ℕ) : Type 0 where
+  inList : h ≤ priorityCount → Lies h
+  inQueue : (class : Class) (i : ℕ) → i < idsIn class → h ≡ home class i → Lies h
+  inNone : h ≡ nowhere → Lies h
 
 -- which list it is that a thread's home names
 pub record Housed (r : Thread) : Type 0 where
-  pub ready : (p : ℕ) → p ≤ 30 → eqb (homeOf r) p ≡ isReady r && eqb (r .priority) p
-  pub semaphore : (i : ℕ) → i < 16 → eqb (homeOf r) (256 + i) ≡ waitsForSemaphore i r
-  pub event : (i : ℕ) → i < 8 → eqb (homeOf r) (512 + i) ≡ waitsForEvent i r
-  pub within : Within (homeOf r)
+  pub ready : (p : ℕ) → p ≤ priorityCount → eqb (homeOf r) p ≡ isReady r && eqb (r .priority) p
+  pub waiting : (class : Class) (i : ℕ) → i < idsIn class → eqb (homeOf r) (home class i) ≡ waitsFor class i r
+  pub lies : Lies (homeOf r)
+  pub low : homeOf r < 256 → (1 ≤ homeOf r) × (homeOf r ≤ priorityCount)
 
 shift : (a i j : ℕ) → eqb (a + i) (a + j) ≡ eqb i j
 shift a i j = cases (eqb i j) (λ e. rw e (omega (arith, eq-eqb, eqb-true))) (λ e. let n = eqb-false i j e in rw e (omega (arith, ne-eqb)))
 
-module _ (k : Kernel) (live-below : (i : ℕ) → semaphore k i .live ≡ true → i < 16) where
+-- the homes of objects lie behind all ready lists
+queue-home : (class : Class) {i : ℕ} → i < idsIn class → (256 ≤ home class i) × (home class i < nowhere)
+queue-home ofSemaphores b = omega arith
+queue-home ofEvents b = omega arith
+
+-- a ready list's home, and none, is no object's
+elsewhere : (h : ℕ) → (h < 256) ⊎ (h ≡ nowhere) → (class : Class) (i : ℕ) → i < idsIn class → eqb h (home class i) ≡ false
+elsewhere h w class i b = let q = queue-home class b in ne-eqb h (home class i) (λ e. ⊎-elim (λ l. omega arith) (λ z. omega arith) w)
+
+-- the condition of one that waits for an object
+abbrev pub waitingFor : Class → ℕ → Condition
+waitingFor ofSemaphores i = ForSemaphore i
+waitingFor ofEvents i = ForEvent i
+
+-- two objects have one home only where they are the same
+own-home : (own class : Class) {j i : ℕ} → j < idsIn own → i < idsIn class
+    → eqb (home own j) (home class i) ≡ onObject class i (waitingFor own j)
+own-home ofSemaphores ofSemaphores {j} {i} b c = shift 256 j i
+own-home ofEvents ofEvents {j} {i} b c = shift 512 j i
+own-home ofSemaphores ofEvents b c = omega (arith, ne-eqb)
+own-home ofEvents ofSemaphores b c = omega (arith, ne-eqb)
+
+module _ (k : Kernel) (live-below : (i : ℕ) → semaphore k i .live ≡ true → i < semaphoreCount) where
   -- a kept thread's home is such a one
   pub housed : (r : Thread) → KeptThread k r → Housed r
   unfolding homeOf
   housed r K = go (r .live) (r .condition) (λ e. K .living e .priority) (λ e. K .living e .condition)
     where
+      none : (class : Class) (i : ℕ) → i < idsIn class → eqb nowhere (home class i) ≡ false
+      none = elsewhere nowhere (inr refl)
+
       go : (live : Bool) (c : Condition)
-          → (live ≡ true → (1 ≤ r .priority) × (r .priority ≤ 30) × (1 ≤ r .first) × (r .first ≤ 30))
+          → (live ≡ true → (1 ≤ r .priority) × (r .priority ≤ priorityCount) × (1 ≤ r .first) × (r .first ≤ priorityCount))
           → (live ≡ true → ConditionKept k (r .ticks) c)
           → Housed
           (record {
@@ -57,27 +83,27 @@ module _ (k : Kernel) (live-below : (i : ℕ) → semaphore k i .live ≡ true �
             wake = r .wake;
             reply = r .reply;
           })
-      go false c P C = omega (arith, ne-eqb)
+      go false c P C = record { ready = omega (arith, ne-eqb); waiting = none; lies = inNone refl; low = omega arith }
       go true Ready P C = let p = P refl in record {
         ready = λ _ _. refl;
-        semaphore = omega (arith, ne-eqb);
-        event = omega (arith, ne-eqb);
-        within = omega arith;
+        waiting = elsewhere (r .priority) (inl (omega arith));
+        lies = inList (omega arith);
+        low = omega arith;
       }
-      go true Asleep P C = omega (arith, ne-eqb)
-      go true (ForSemaphore i) P C = let b = live-below i (C refl .0) in record {
+      go true Asleep P C = record { ready = omega (arith, ne-eqb); waiting = none; lies = inNone refl; low = omega arith }
+      go true (ForSemaphore j) P C = let b = live-below j (C refl .0) in record {
         ready = omega (arith, ne-eqb);
-        semaphore = λ j _. shift 256 i j;
-        event = omega (arith, ne-eqb);
-        within = omega arith;
+        waiting = λ class i. own-home ofSemaphores class b;
+        lies = inQueue ofSemaphores j b refl;
+        low = omega arith;
       }
-      go true (ForEvent i) P C = let b = C refl .0 in record {
+      go true (ForEvent j) P C = let b = C refl .0 in record {
         ready = omega (arith, ne-eqb);
-        semaphore = omega (arith, ne-eqb);
-        event = λ j _. shift 512 i j;
-        within = omega arith;
+        waiting = λ class i. own-home ofEvents class b;
+        lies = inQueue ofEvents j b refl;
+        low = omega arith;
       }
-      go true (ForMessage mask) P C = omega (arith, ne-eqb)
+      go true (ForMessage mask) P C = record { ready = omega (arith, ne-eqb); waiting = none; lies = inNone refl; low = omega arith }
 
 -- ---- the lists of a table
 pub cond-one : (f b : Bool) → cond f (one b) 0 ≡ one (b && f)
@@ -98,39 +124,24 @@ module _ (k : Kernel) (H : (t : ℕ) → Housed (thread k t)) where
   unfolding ReadyPlaces
   ready-places P t p b = line-count P t p (omega arith) ∙ ap one (H t .ready p b)
 
-  pub semaphore-places : Stands → SemaphorePlaces k
-  unfolding SemaphorePlaces
-  semaphore-places P t i b = line-count P t (256 + i) (omega arith) ∙ ap one (H t .semaphore i b)
-
-  pub event-places : Stands → EventPlaces k
-  unfolding EventPlaces
-  event-places P t i b = line-count P t (512 + i) (omega arith) ∙ ap one (H t .event i b)
+  pub waiting-places : Stands → WaitingPlaces k
+  unfolding WaitingPlaces
+  waiting-places P class t i b = line-count P t (home class i) (queue-home class b .1) ∙ ap one (H t .waiting class i b)
 
   -- and where the lists have theirs, so has the table
-  module _ (R : ReadyPlaces k) (S : SemaphorePlaces k) (E : EventPlaces k) (N : NoOtherPlaces k) where
-    -- a thread stands in the list of its home
-    at-home : (t : ℕ) → homeOf (thread k t) < nowhere → count t (atHome k (homeOf (thread k t))) ≡ 1
-    unfolding ReadyPlaces SemaphorePlaces EventPlaces
-    at-home t b =
-        let h = homeOf (thread k t) in
-        cases (ltb h 256) (λ e. ready (H t .within .low (ltb-true h 256 e) .1))
-        (λ e. let m = ltb-false h 256 e in
-        cases (ltb h 512) (λ f. semaphore (h - 256) (omega arith) (omega (arith, H t .within .middle m (ltb-true h 512 f))))
-        (λ f. let l = ltb-false h 512 f in event (h - 512) (omega arith) (omega (arith, H t .within .high l b))))
-      where
-        ready : homeOf (thread k t) ≤ 30 → count t (atHome k (homeOf (thread k t))) ≡ 1
-        ready c = R t (homeOf (thread k t)) c ∙ rw (← H t .ready (homeOf (thread k t)) c, same)
-
-        semaphore : (i : ℕ) → homeOf (thread k t) ≡ 256 + i → i < 16 → count t (atHome k (homeOf (thread k t))) ≡ 1
-        semaphore i e c = rw e (S t i c ∙ rw (← H t .semaphore i c, eq-eqb _ _ e))
-
-        event : (i : ℕ) → homeOf (thread k t) ≡ 512 + i → i < 8 → count t (atHome k (homeOf (thread k t))) ≡ 1
-        event i e c = rw e (E t i c ∙ rw (← H t .event i c, eq-eqb _ _ e))
-
+  module _ (R : ReadyPlaces k) (W : WaitingPlaces k) (N : NoOtherPlaces k) where
     -- each that has a home stands in the table once, and nobody else does
     pub stands : Stands
-    unfolding NoOtherPlaces
-    stands t =
-        let h = homeOf (thread k t) in
-        cases (eqb h nowhere) (λ e. rw e (N t (rw e)))
-        (λ e. let n = eqb-false h nowhere e in rw e (rw (count-keep, same) at (at-home t (omega (arith, H t .within .most)))))
+    unfolding ReadyPlaces WaitingPlaces NoOtherPlaces
+    stands t = go (H t .lies)
+      where
+        -- who stands in the list of its home stands in the table
+        in-table : homeOf (thread k t) < nowhere → count t (atHome k (homeOf (thread k t))) ≡ 1
+            → count t (items (k .places)) ≡ one (hasHome (thread k t))
+        in-table b e = rw (ne-eqb (homeOf (thread k t)) nowhere (λ z. omega arith)) (rw (count-keep, same) at e)
+
+        go : Lies (homeOf (thread k t)) → count t (items (k .places)) ≡ one (hasHome (thread k t))
+        go (inList b) = in-table (omega arith) (R t (homeOf (thread k t)) b ∙ rw (← H t .ready (homeOf (thread k t)) b, same))
+        go (inQueue class i b e) =
+            in-table (omega (arith, queue-home class b)) (rw e (W class t i b ∙ rw (← H t .waiting class i b, eq-eqb _ _ e)))
+        go (inNone e) = rw e (N t (rw e))

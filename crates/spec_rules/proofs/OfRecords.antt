@@ -19,6 +19,7 @@ use Rattle.spec_kernel.specs.declared.records.Semaphore.{Semaphore}
 use Rattle.spec_kernel.specs.declared.records.Message.{Message}
 use Rattle.spec_kernel.specs.declared.records.Kernel.{Kernel}
 use Rattle.spec_kernel.specs.Records.{thread, semaphore, event, message, noThread, noSemaphore, noMessage}
+use Rattle.spec_kernel.specs.Sizes.{threadCount, eventCount, messageCount, priorityCount, channelCount}
 use Rattle.spec_kernel.specs.Conditions.{readyFor, awaits}
 use Rattle.spec_kernel.specs.Truth.{isTrue}
 use Rattle.spec_rules.specs.Tests.{noWake, conditionKept, isNoThread, liveThreadKept, threadKept, threadsKept}
@@ -107,7 +108,7 @@ abbrev pub ConditionKept : Kernel → ℕ → Condition → Type 0
 ConditionKept k ticks Ready = ticks ≡ 0
 ConditionKept k ticks Asleep = 0 < ticks
 ConditionKept k ticks (ForSemaphore i) = (semaphore k i .live ≡ true) × (semaphore k i .count ≡ 0)
-ConditionKept k ticks (ForEvent i) = (i < 8) × (isTrue (k .bits) (event k i) ≡ false)
+ConditionKept k ticks (ForEvent i) = (i < eventCount) × (isTrue (k .bits) (event k i) ≡ false)
 ConditionKept k ticks (ForMessage mask) = (0 < mask) × (mask ≤ 32767)
 
 condition-exactly : (k : Kernel) (ticks : ℕ) (c : Condition)
@@ -120,8 +121,8 @@ condition-exactly k ticks (ForEvent i) = simp tests Iff·rfl
 condition-exactly k ticks (ForMessage mask) = simp tests Iff·rfl
 
 pub record LiveThread (k : Kernel) (r : Thread) : Type 0 where
-  pub priority : (1 ≤ r .priority) × (r .priority ≤ 30) × (1 ≤ r .first) × (r .first ≤ 30)
-  pub reply : (r .reply < 64) ⊎ (r .reply ≡ 255)
+  pub priority : (1 ≤ r .priority) × (r .priority ≤ priorityCount) × (1 ≤ r .first) × (r .first ≤ priorityCount)
+  pub reply : (r .reply < messageCount) ⊎ (r .reply ≡ 255)
   pub condition : ConditionKept k (r .ticks) (r .condition)
 
 thread-lives : (k : Kernel) (r : Thread) → (liveThreadKept (k .semaphores) (k .events) (k .bits) r ≡ true) ↔ LiveThread k r
@@ -181,8 +182,8 @@ semaphores-exactly k =
 -- ---- messages
 pub record LiveMessage (k : Kernel) (r : Message) : Type 0 where
   pub owner : thread k (r .owner) .live ≡ true
-  pub sender : r .sender < 32
-  pub channel : r .channel ≤ 15
+  pub sender : r .sender < threadCount
+  pub channel : r .channel ≤ channelCount
   pub unawaited : awaits (thread k (r .owner) .condition) (r .channel) ≡ false
 
 message-lives : (k : Kernel) (r : Message) → (liveMessageKept (k .threads) r ≡ true) ↔ LiveMessage k r

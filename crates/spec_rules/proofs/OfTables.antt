@@ -7,7 +7,7 @@ use mathlib.Core.Logic.{_↔_}
 use lib.ListN.{length, getD}
 use Rattle.base_queue.specs.declared.Queue.{Queue}
 use Rattle.base_queue.specs.Lists.{Ordered}
-use Rattle.base_queue.specs.Queues.{items, isTidy, Tidy}
+use Rattle.base_queue.specs.Queues.{capacity, items, isTidy, Tidy}
 use Rattle.base_queue.specs.Tables.{Placed, isPlaced, isOrderedFrom}
 use Rattle.base_queue.proofs.Queues.{tidy-means, tidy-holds}
 use Rattle.base_queue.proofs.Orders.{ordered-means, ordered-holds}
@@ -21,7 +21,7 @@ use Rattle.spec_rules.specs.Tests.{allOf, isTicking, inRank, inTime, inS
 
 -- a table of those whose record says that they belong there, in the order of a key
 module _ {A : Type 0} (belongs : A → Bool) (key : A → ℕ) (none : A) (out : belongs none ≡ false)
-    (records : List A) (q : Queue) (full : length (q .at) ≡ 64) where
+    (records : List A) (q : Queue) (full : length (q .at) ≡ capacity) where
   abbrev member : ℕ → Bool
   member x = belongs (getD records x none)
 

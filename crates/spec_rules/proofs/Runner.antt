@@ -12,6 +12,7 @@ use Rattle.base_queue.specs.Queues.{items}
 use Rattle.base_queue.proofs.Counts.{count-head, kept}
 use Rattle.base_queue.proofs.Orders.{ordered-low}
 use Rattle.spec_kernel.specs.declared.records.Kernel.{Kernel}
+use Rattle.spec_kernel.specs.Sizes.{priorityCount}
 use Rattle.spec_kernel.specs.Records.{thread}
 use Rattle.spec_kernel.specs.Places.{homeOf, atHome}
 use Rattle.spec_kernel.specs.Runner.{readyFrom, firstReady, chosen}
@@ -53,14 +54,14 @@ module _ (k : Kernel) where
   first-place H o = go (items (k .places)) refl
     where
       go : (l : List ℕ) → items (k .places) ≡ l
-          → cond (ltb (home (firstOf (items (k .places)))) 256) (firstOf (items (k .places))) 255 ≡ firstOf (readyFrom k 1 30)
+          → cond (ltb (home (firstOf (items (k .places)))) 256) (firstOf (items (k .places))) 255 ≡ firstOf (readyFrom k 1 priorityCount)
       go [] e =
-          rw (e, ready-none 31 (λ u c. absurd (omega (arith, rw e at c))) 1 30 (omega arith))
+          rw (e, ready-none (suc priorityCount) (λ u c. absurd (omega (arith, rw e at c))) 1 priorityCount (omega arith))
           (cases (ltb (home 255) 256) (λ f. rw f) (λ f. rw f))
       go (x ∷ l) e =
           let after : Ordered home (x ∷ l) = rw e at o in
           let from : (u : ℕ) → 0 < count u (items (k .places)) → home x ≤ home u =
           λ u c. ordered-low home {low = home x} (x ∷ l) (omega arith, after .1) u (rw e at c) in
           cases (ltb (home x) 256)
-          (λ f. let (b, c) = H x .within .low (ltb-true (home x) 256 f) in rw (e, f) (sym (ready-first x l e from 1 30 b (omega arith))))
-          (λ f. rw (e, f, ready-none (home x) from 1 30 (omega (arith, ltb-false))))
+          (λ f. let (b, c) = H x .low (ltb-true (home x) 256 f) in rw (e, f) (sym (ready-first x l e from 1 priorityCount b (omega arith))))
+          (λ f. rw (e, f, ready-none (home x) from 1 priorityCount (omega (arith, ltb-false))))

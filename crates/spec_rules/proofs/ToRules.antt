@@ -5,7 +5,7 @@ use mathlib.Core.Bool.{Bool, true, false, false≢true, and-eq-true-iff}
 use mathlib.Core.Logic.{_⊎_, inl}
 use native.Mathlib.Omega.{arith}
 use lib.Dec.{eqb}
-use borrow.Author.Tests.{eqb-true, eqb-false, ltb-true, ltb-false}
+use borrow.Author.Tests.{eqb-true, eqb-false, ltb-true, ltb-false, lt-ltb}
 use borrow.Table.Steps.{cases}
 use Rattle.base_queue.specs.Lists.{count}
 use Rattle.base_queue.specs.Queues.{items}
@@ -16,17 +16,19 @@ use Rattle.spec_kernel.specs.declared.records.Condition.{Condition}
 use Rattle.spec_kernel.specs.declared.records.Condition.the-variants.{Ready, Asleep, ForSemaphore, ForEvent, ForMessage}
 use Rattle.spec_kernel.specs.declared.records.Kernel.{Kernel}
 use Rattle.spec_kernel.specs.Records.{thread, semaphore, message}
-use Rattle.spec_kernel.specs.Conditions.{onSemaphore, waitsForSemaphore, onEvent, waitsForEvent}
-use Rattle.spec_kernel.specs.Places.{homeOf, rankOf, atHome, semaphoreQueue, eventQueue, isQueued, onChannel, channel}
+use Rattle.spec_kernel.specs.Sizes.{threadCount, eventCount, messageCount, channelCount}
+use Rattle.spec_kernel.specs.Conditions.{Class, ofSemaphores, ofEvents, idsIn, onObject, waitsFor}
+use Rattle.spec_kernel.specs.Places.{home as place, homeOf, rankOf, atHome, queueOf, semaphoreQueue, eventQueue}
+use Rattle.spec_kernel.specs.Places.{isQueued, onChannel, channel}
 use Rattle.spec_rules.specs.Rules.{Sized, Rules}
-use Rattle.spec_rules.specs.Rules.{LiveSemaphores, LiveEvents, NoOtherPlaces, UnusedStore}
+use Rattle.spec_rules.specs.Rules.{LiveObjects, NoOtherPlaces, UnusedStore}
 use Rattle.spec_rules.specs.Rules.{TimePlaces, WaitingOrder, TimeOrder, StoreOrder}
 use Rattle.spec_rules.specs.Rules.{WaitersAtZero, CountsAtMost, TrueWithoutWaiters}
 use Rattle.spec_rules.specs.Rules.{NoneAwaited, LiveOwners, ChannelPlaces, NoOtherPosts}
 use Rattle.spec_rules.specs.Rules.{PrioritySizes, MaskSizes, ReplySizes, MaximumSizes, MessageSizes, FirstRuns, SomeRuns}
 use Rattle.spec_rules.specs.Rules.{TicksLeft, PeriodicTicks, OtherTicks, UnperiodicTicks, DeadThreads, DeadSemaphores, DeadMessages}
 use Rattle.spec_rules.proofs.OfRecords.{live-or-not, ConditionKept}
-use Rattle.spec_rules.proofs.Homes.{Housed, cond-one, ready-places, semaphore-places, event-places}
+use Rattle.spec_rules.proofs.Homes.{Housed, waitingFor, cond-one, ready-places, waiting-places}
 use Rattle.spec_rules.proofs.Runner.{nobody, first-place}
 use Rattle.spec_rules.proofs.Whole.{Whole, homes, conditions, timed}
 
@@ -35,19 +37,14 @@ belongs : (b : Bool) → 0 < one b → b ≡ true
 belongs true h = refl
 belongs false h = absurd (omega arith)
 
-on-semaphore : (i : ℕ) (c : Condition) → onSemaphore i c ≡ true → c ≡ ForSemaphore i
-on-semaphore i Ready h = cc
-on-semaphore i Asleep h = cc
-on-semaphore i (ForSemaphore j) h = ap ForSemaphore (eqb-true j i h)
-on-semaphore i (ForEvent j) h = cc
-on-semaphore i (ForMessage mask) h = cc
-
-on-event : (i : ℕ) (c : Condition) → onEvent i c ≡ true → c ≡ ForEvent i
-on-event i Ready h = cc
-on-event i Asleep h = cc
-on-event i (ForSemaphore j) h = cc
-on-event i (ForEvent j) h = ap ForEvent (eqb-true j i h)
-on-event i (ForMessage mask) h = cc
+on-object : (class : Class) (i : ℕ) (c : Condition) → onObject class i c ≡ true → c ≡ waitingFor class i
+on-object class i Ready h = cc
+on-object class i Asleep h = cc
+on-object ofSemaphores i (ForSemaphore j) h = ap ForSemaphore (eqb-true j i h)
+on-object ofEvents i (ForSemaphore j) h = cc
+on-object ofSemaphores i (ForEvent j) h = cc
+on-object ofEvents i (ForEvent j) h = ap ForEvent (eqb-true j i h)
+on-object class i (ForMessage mask) h = cc
 
 module _ (k : Kernel) (Z : Sized k) (W : Whole k) where
   abbrev home : (t : ℕ) → Housed (thread k t)
@@ -60,21 +57,27 @@ module _ (k : Kernel) (Z : Sized k) (W : Whole k) where
   in-line : (h u : ℕ) → 0 < count u (atHome k h) → eqb (homeOf (thread k u)) h ≡ true
   in-line h u c = kept (λ t. eqb (homeOf (thread k t)) h) (items (k .places)) c .0
 
+  waits : (class : Class) (i u : ℕ) → i < idsIn class → 0 < count u (queueOf class k i) → thread k u .condition ≡ waitingFor class i
+  waits class i u b c =
+      let w : waitsFor class i (thread k u) ≡ true = sym (home u .waiting class i b) ∙ in-line (place class i) u c in
+      on-object class i (thread k u .condition) (and-eq-true-iff (thread k u .live) _ .0 w .1)
+
   waiters-at-zero : WaitersAtZero k
   unfolding WaitersAtZero
   waiters-at-zero i b some =
       cases (eqb (semaphore k i .count) 0) (eqb-true (semaphore k i .count) 0)
       (λ e. absurd (some (nobody (semaphoreQueue k i) λ u c.
-      let waits : waitsForSemaphore i (thread k u) ≡ true = sym (home u .semaphore i b) ∙ in-line (256 + i) u c in
-      let is = on-semaphore i (thread k u .condition) (and-eq-true-iff (thread k u .live) _ .0 waits .1) in
-      eqb-false (semaphore k i .count) 0 e ((rw is at (condition u)) .1))))
+      eqb-false (semaphore k i .count) 0 e ((rw (waits ofSemaphores i u b c) at (condition u)) .1))))
 
   true-without-waiters : TrueWithoutWaiters k
   unfolding TrueWithoutWaiters
   true-without-waiters i b h = nobody (eventQueue k i) λ u c.
-      let waits : waitsForEvent i (thread k u) ≡ true = sym (home u .event i b) ∙ in-line (512 + i) u c in
-      let is = on-event i (thread k u .condition) (and-eq-true-iff (thread k u .live) _ .0 waits .1) in
-      false≢true (sym ((rw is at (condition u)) .1) ∙ h)
+      false≢true (sym ((rw (waits ofEvents i u b c) at (condition u)) .1) ∙ h)
+
+  live-objects : LiveObjects k
+  unfolding LiveObjects
+  live-objects ofSemaphores t i e = (rw (on-object ofSemaphores i (thread k t .condition) e) at (condition t)) .0
+  live-objects ofEvents t i e = lt-ltb i eventCount ((rw (on-object ofEvents i (thread k t .condition) e) at (condition t)) .0)
 
   none-awaited : NoneAwaited k
   unfolding NoneAwaited
@@ -91,7 +94,7 @@ module _ (k : Kernel) (Z : Sized k) (W : Whole k) where
 
   -- ---- the rules
   pub rules-of : Rules k
-  unfolding LiveSemaphores LiveEvents NoOtherPlaces UnusedStore TimePlaces WaitingOrder TimeOrder StoreOrder CountsAtMost LiveOwners
+  unfolding NoOtherPlaces UnusedStore TimePlaces WaitingOrder TimeOrder StoreOrder CountsAtMost LiveOwners
       NoOtherPosts
       PrioritySizes MaskSizes ReplySizes MaximumSizes MessageSizes FirstRuns SomeRuns
       TicksLeft PeriodicTicks OtherTicks UnperiodicTicks DeadThreads DeadSemaphores DeadMessages rankOf
@@ -102,10 +105,8 @@ module _ (k : Kernel) (Z : Sized k) (W : Whole k) where
       let (byHome, byPriority) = ordered-pairs (λ t. homeOf (thread k t)) (λ t. thread k t .priority) (Z .priorities) l (S .inRank) in
       record {
         readyPlaces = ready-places k home (S .placed);
-        semaphorePlaces = semaphore-places k home (S .placed);
-        eventPlaces = event-places k home (S .placed);
-        liveSemaphores = λ t i e. (rw e at (condition t)) .0;
-        liveEvents = λ t i e. (rw e at (condition t)) .0;
+        waitingPlaces = waiting-places k home (S .placed);
+        liveObjects = live-objects;
         noOtherPlaces = λ t e. S .placed t ∙ ap one e;
         unusedStore = (S .tidyPlaces, S .tidyTime, W .filed .tidy);
         timePlaces = λ t. S .timed t ∙ ap one (sym (T t));
@@ -120,10 +121,12 @@ module _ (k : Kernel) (Z : Sized k) (W : Whole k) where
         noOtherPosts = λ m e. W .filed .placed m ∙ ap one e;
         prioritySizes = λ t e. W .threads t .living e .priority;
         maskSizes = λ t mask e. rw e at (condition t);
-        replySizes = λ t. live-or-not (λ r. (r .reply < 64) ⊎ (r .reply ≡ 255)) (W .threads t) (λ L. L .reply) (inl (omega arith));
+        replySizes =
+            λ t. live-or-not (λ r. (r .reply < messageCount) ⊎ (r .reply ≡ 255)) (W .threads t) (λ L. L .reply) (inl (omega arith));
         maximumSizes = λ i e. W .semaphores i .living e .maximum;
         messageSizes =
-            λ m. live-or-not (λ r. (r .sender < 32) × (r .channel ≤ 15)) (W .messages m) (λ L. (L .sender, L .channel)) (omega arith);
+            λ m. live-or-not (λ r. (r .sender < threadCount) × (r .channel ≤ channelCount)) (W .messages m)
+            (λ L. (L .sender, L .channel)) (omega arith);
         ticksLeft = λ t e. ltb-true 0 (thread k t .ticks) (sym (T t) ∙ e);
         periodicTicks = λ i. live-or-not (λ r. 0 < r .period → 0 < r .ticks) (W .semaphores i) (λ L. L .ticks .1) (omega arith);
         deadThreads = λ t. W .threads t .gone;

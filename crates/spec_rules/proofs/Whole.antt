@@ -10,6 +10,7 @@ use borrow.Table.Steps.{cases}
 use Rattle.spec_kernel.specs.declared.records.Condition.{Condition}
 use Rattle.spec_kernel.specs.declared.records.Condition.the-variants.{Ready, Asleep, ForSemaphore, ForEvent, ForMessage}
 use Rattle.spec_kernel.specs.declared.records.Kernel.{Kernel}
+use Rattle.spec_kernel.specs.Sizes.{semaphoreCount}
 use Rattle.spec_kernel.specs.Records.{thread, semaphore, message, noSemaphore}
 use Rattle.spec_kernel.specs.Conditions.{isReady, isTimed, timedFor}
 use Rattle.spec_kernel.specs.Runner.{chosen}
@@ -52,10 +53,10 @@ module _ (k : Kernel) (Z : Sized k) where
   )
 
   -- a live semaphore has an id
-  pub live-below : (i : ℕ) → semaphore k i .live ≡ true → i < 16
+  pub live-below : (i : ℕ) → semaphore k i .live ≡ true → i < semaphoreCount
   live-below i h =
-      cases (ltb i 16) (ltb-true i 16)
-      (λ e. let past = List·getD-eq-default (k .semaphores) noSemaphore {n = i} (rw (Z .semaphores) (ltb-false i 16 e)) in
+      cases (ltb i semaphoreCount) (ltb-true i semaphoreCount)
+      (λ e. let past = List·getD-eq-default (k .semaphores) noSemaphore {n = i} (rw (Z .semaphores) (ltb-false i semaphoreCount e)) in
       absurd (false≢true (rw past at h)))
 
   module _ (K : (t : ℕ) → KeptThread k (thread k t)) where

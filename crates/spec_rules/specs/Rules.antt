@@ -1,32 +1,33 @@
 -- The state rules of document 01, in its terms and order: one definition for each, and the record that collects them.
 use Prim.Native.Nat.{ℕ, _+_, _≤_, _<_}
 use mathlib.Core.Path.{_≡_}
-use mathlib.Core.Bool.{true, false, _&&_}
+use mathlib.Core.Bool.{Bool, true, false, _&&_}
 use mathlib.Core.List.{[]}
 use mathlib.Core.Logic.{_⊎_}
-use lib.Dec.{eqb}
+use lib.Dec.{eqb, ltb}
 use lib.ListN.{length}
 use Rattle.base_queue.specs.Lists.{count, Ordered}
-use Rattle.base_queue.specs.Queues.{items, Tidy}
+use Rattle.base_queue.specs.Queues.{capacity, items, Tidy}
 use Rattle.base_queue.specs.Tables.{one}
-use Rattle.spec_kernel.specs.declared.records.Condition.the-variants.{ForSemaphore, ForEvent, ForMessage}
+use Rattle.spec_kernel.specs.declared.records.Condition.the-variants.{ForMessage}
 use Rattle.spec_kernel.specs.declared.records.Kernel.{Kernel}
 use Rattle.spec_kernel.specs.Records.{thread, semaphore, event, message, noThread, noSemaphore, noMessage}
-use Rattle.spec_kernel.specs.Conditions.{isReady, waitsForSemaphore, waitsForEvent, isTimed, masks}
-use Rattle.spec_kernel.specs.Places.{homeOf, hasHome, atHome, readyList, semaphoreQueue}
+use Rattle.spec_kernel.specs.Sizes.{threadCount, semaphoreCount, eventCount, messageCount, priorityCount, channelCount}
+use Rattle.spec_kernel.specs.Conditions.{isReady, Class, ofSemaphores, ofEvents, idsIn, onObject, waitsFor, isTimed, masks}
+use Rattle.spec_kernel.specs.Places.{homeOf, hasHome, atHome, readyList, queueOf, semaphoreQueue}
 use Rattle.spec_kernel.specs.Places.{eventQueue, timeQueue, channel, onChannel, isQueued, streamOf}
 use Rattle.spec_kernel.specs.Truth.{isTrue}
 use Rattle.spec_kernel.specs.Runner.{firstReady}
 
 -- What the types give of every value: the number of records, the store of each table, and bytes for priorities.
 pub record Sized (k : Kernel) : Type 0 where
-  pub threads : length (k .threads) ≡ 32
-  pub semaphores : length (k .semaphores) ≡ 16
-  pub events : length (k .events) ≡ 8
-  pub messages : length (k .messages) ≡ 64
-  pub places : length (k .places .at) ≡ 64
-  pub time : length (k .time .at) ≡ 64
-  pub posted : length (k .posted .at) ≡ 64
+  pub threads : length (k .threads) ≡ threadCount
+  pub semaphores : length (k .semaphores) ≡ semaphoreCount
+  pub events : length (k .events) ≡ eventCount
+  pub messages : length (k .messages) ≡ messageCount
+  pub places : length (k .places .at) ≡ capacity
+  pub time : length (k .time .at) ≡ capacity
+  pub posted : length (k .posted .at) ≡ capacity
   pub priorities : (t : ℕ) → thread k t .priority < 256
   pub channels : (m : ℕ) → message k m .channel < 256
 
@@ -34,20 +35,19 @@ pub record Sized (k : Kernel) : Type 0 where
 
 -- A ready thread stands once in the list of its priority; nobody else stands there [01, state 1.2].
 unfoldable pub ReadyPlaces : Kernel → Type 0
-ReadyPlaces k = (t p : ℕ) → p ≤ 30 → count t (readyList k p) ≡ one (isReady (thread k t) && eqb (thread k t .priority) p)
+ReadyPlaces k = (t p : ℕ) → p ≤ priorityCount → count t (readyList k p) ≡ one (isReady (thread k t) && eqb (thread k t .priority) p)
 
 -- Who waits for a semaphore or event stands once in its queue, and nobody else does; what is waited for is live [01, state 1.3].
-unfoldable pub SemaphorePlaces : Kernel → Type 0
-SemaphorePlaces k = (t i : ℕ) → i < 16 → count t (semaphoreQueue k i) ≡ one (waitsForSemaphore i (thread k t))
+unfoldable pub WaitingPlaces : Kernel → Type 0
+WaitingPlaces k = (class : Class) (t i : ℕ) → i < idsIn class → count t (queueOf class k i) ≡ one (waitsFor class i (thread k t))
 
-unfoldable pub EventPlaces : Kernel → Type 0
-EventPlaces k = (t i : ℕ) → i < 8 → count t (eventQueue k i) ≡ one (waitsForEvent i (thread k t))
+-- a semaphore that is live; an event is always there
+abbrev pub isObject : Class → Kernel → ℕ → Bool
+isObject ofSemaphores k i = semaphore k i .live
+isObject ofEvents k i = ltb i eventCount
 
-unfoldable pub LiveSemaphores : Kernel → Type 0
-LiveSemaphores k = (t i : ℕ) → thread k t .condition ≡ ForSemaphore i → semaphore k i .live ≡ true
-
-unfoldable pub LiveEvents : Kernel → Type 0
-LiveEvents k = (t i : ℕ) → thread k t .condition ≡ ForEvent i → i < 8
+unfoldable pub LiveObjects : Kernel → Type 0
+LiveObjects k = (class : Class) (t i : ℕ) → onObject class i (thread k t .condition) ≡ true → isObject class k i ≡ true
 
 -- Who isn't live, sleeps or waits for a message stands in no list and no such queue [01, state 1.4].
 unfoldable pub NoOtherPlaces : Kernel → Type 0
@@ -71,7 +71,7 @@ TimeOrder k = Ordered (λ t. thread k t .ticks) (timeQueue k)
 
 -- While anybody waits for a semaphore its count is 0 [01, state 4.1].
 unfoldable pub WaitersAtZero : Kernel → Type 0
-WaitersAtZero k = (i : ℕ) → i < 16 → (semaphoreQueue k i ≡ [] → ⊥) → semaphore k i .count ≡ 0
+WaitersAtZero k = (i : ℕ) → i < semaphoreCount → (semaphoreQueue k i ≡ [] → ⊥) → semaphore k i .count ≡ 0
 
 -- No count is above its maximum [01, state 4.2].
 unfoldable pub CountsAtMost : Kernel → Type 0
@@ -79,7 +79,7 @@ CountsAtMost k = (i : ℕ) → semaphore k i .count ≤ semaphore k i .maximum
 
 -- Nobody waits for an event that is TRUE [01, state 4.3].
 unfoldable pub TrueWithoutWaiters : Kernel → Type 0
-TrueWithoutWaiters k = (i : ℕ) → i < 8 → isTrue (k .bits) (event k i) ≡ true → eventQueue k i ≡ []
+TrueWithoutWaiters k = (i : ℕ) → i < eventCount → isTrue (k .bits) (event k i) ≡ true → eventQueue k i ≡ []
 
 -- On a channel that it waits for, a thread has no message [01, state 5].
 unfoldable pub NoneAwaited : Kernel → Type 0
@@ -101,19 +101,19 @@ NoOtherPosts k = (m : ℕ) → isQueued (message k m) ≡ false → count m (ite
 unfoldable pub PrioritySizes : Kernel → Type 0
 PrioritySizes k =
     (t : ℕ) → thread k t .live ≡ true
-    → (1 ≤ thread k t .priority) × (thread k t .priority ≤ 30) × (1 ≤ thread k t .first) × (thread k t .first ≤ 30)
+    → (1 ≤ thread k t .priority) × (thread k t .priority ≤ priorityCount) × (1 ≤ thread k t .first) × (thread k t .first ≤ priorityCount)
 
 unfoldable pub MaskSizes : Kernel → Type 0
 MaskSizes k = (t mask : ℕ) → thread k t .condition ≡ ForMessage mask → (1 ≤ mask) × (mask ≤ 32767)
 
 unfoldable pub ReplySizes : Kernel → Type 0
-ReplySizes k = (t : ℕ) → (thread k t .reply < 64) ⊎ (thread k t .reply ≡ 255)
+ReplySizes k = (t : ℕ) → (thread k t .reply < messageCount) ⊎ (thread k t .reply ≡ 255)
 
 unfoldable pub MaximumSizes : Kernel → Type 0
 MaximumSizes k = (i : ℕ) → semaphore k i .live ≡ true → 1 ≤ semaphore k i .maximum
 
 unfoldable pub MessageSizes : Kernel → Type 0
-MessageSizes k = (m : ℕ) → (message k m .sender < 32) × (message k m .channel ≤ 15)
+MessageSizes k = (m : ℕ) → (message k m .sender < threadCount) × (message k m .channel ≤ channelCount)
 
 -- Who is timed has ticks left, and so has a periodic semaphore [01, state 7.2].
 unfoldable pub TicksLeft : Kernel → Type 0
@@ -154,10 +154,8 @@ StoreOrder k = Ordered (λ t. homeOf (thread k t)) (items (k .places)) × Ordere
 -- The state rules.
 pub record Rules (k : Kernel) : Type 0 where
   pub readyPlaces : ReadyPlaces k
-  pub semaphorePlaces : SemaphorePlaces k
-  pub eventPlaces : EventPlaces k
-  pub liveSemaphores : LiveSemaphores k
-  pub liveEvents : LiveEvents k
+  pub waitingPlaces : WaitingPlaces k
+  pub liveObjects : LiveObjects k
   pub noOtherPlaces : NoOtherPlaces k
   pub unusedStore : UnusedStore k
   pub timePlaces : TimePlaces k

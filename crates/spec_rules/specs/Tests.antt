@@ -16,6 +16,7 @@ use Rattle.spec_kernel.specs.declared.records.Event.{Event}
 use Rattle.spec_kernel.specs.declared.records.Message.{Message}
 use Rattle.spec_kernel.specs.declared.records.Kernel.{Kernel}
 use Rattle.spec_kernel.specs.Records.{thread, noThread, noSemaphore, noEvent, noMessage}
+use Rattle.spec_kernel.specs.Sizes.{threadCount, eventCount, messageCount, priorityCount, channelCount}
 use Rattle.spec_kernel.specs.Conditions.{readyFor, isReady, awaits}
 use Rattle.spec_kernel.specs.Places.{hasHome, rankOf, isQueued, streamOf}
 use Rattle.spec_kernel.specs.Truth.{isTrue}
@@ -47,9 +48,9 @@ isNoMessage r =
 abbrev pub semaphoreWaited : List Semaphore → ℕ → Bool
 semaphoreWaited semaphores i = getD semaphores i noSemaphore .live && eqb (getD semaphores i noSemaphore .count) 0
 
--- Event i may have waiters: its id is below 8 and it isn't TRUE [01, state 1.3, 4.3].
+-- Event i may have waiters: there is such an event and it isn't TRUE [01, state 1.3, 4.3].
 abbrev pub eventWaited : List Event → ℕ → ℕ → Bool
-eventWaited events bits i = ltb i 8 && not (isTrue bits (getD events i noEvent))
+eventWaited events bits i = ltb i eventCount && not (isTrue bits (getD events i noEvent))
 
 -- a live thread's condition: its ticks left, and the object that it waits for
 unfoldable pub conditionKept : List Semaphore → List Event → ℕ → ℕ → Condition → Bool
@@ -63,10 +64,10 @@ unfoldable pub liveThreadKept : List Semaphore → List Event → ℕ → Thread
 liveThreadKept semaphores events bits r =
     allOf
     (ltb 0 (r .priority)
-    ∷ leb (r .priority) 30
+    ∷ leb (r .priority) priorityCount
     ∷ ltb 0 (r .first)
-    ∷ leb (r .first) 30
-    ∷ (ltb (r .reply) 64 || eqb (r .reply) 255)
+    ∷ leb (r .first) priorityCount
+    ∷ (ltb (r .reply) messageCount || eqb (r .reply) 255)
     ∷ conditionKept semaphores events bits (r .ticks) (r .condition)
     ∷ [])
 
@@ -90,8 +91,8 @@ unfoldable pub liveMessageKept : List Thread → Message → Bool
 liveMessageKept threads r =
     allOf
     (getD threads (r .owner) noThread .live
-    ∷ ltb (r .sender) 32
-    ∷ leb (r .channel) 15
+    ∷ ltb (r .sender) threadCount
+    ∷ leb (r .channel) channelCount
     ∷ not (awaits (getD threads (r .owner) noThread .condition) (r .channel))
     ∷ [])
 

@@ -13,7 +13,8 @@ use Rattle.spec_kernel.specs.declared.records.Wake.{Wake}
 use Rattle.spec_kernel.specs.declared.records.Semaphore.{Semaphore}
 use Rattle.spec_kernel.specs.declared.records.Kernel.{Kernel}
 use Rattle.spec_kernel.specs.Records.{thread, semaphore, noSemaphore}
-use Rattle.spec_kernel.specs.Places.{semaphoreHome, semaphoreQueue}
+use Rattle.spec_kernel.specs.Conditions.{ofSemaphores}
+use Rattle.spec_kernel.specs.Places.{home, semaphoreQueue}
 use Rattle.spec_moves.specs.Standing.{threadsOf, Standing}
 use Rattle.spec_calls.specs.declared.call.Call.{Call}
 use Rattle.spec_moves.specs.States.{withSemaphore}
@@ -60,8 +61,8 @@ module _ (k : Kernel) (i : ℕ) where
       -- and the others wait on, in their order
       pub post-queue : semaphoreQueue (post i k) i ≡ l
       post-queue =
-          post-wakes .queues (semaphoreHome i) (λ z. omega arith)
-          ∙ rw waits (without-first t l (rw waits at (line-once S t (semaphoreHome i))))
+          post-wakes .queues (home ofSemaphores i) (λ z. omega arith)
+          ∙ rw waits (without-first t l (rw waits at (line-once S t (home ofSemaphores i))))
 
   -- ---- With nobody waiting a post raises the count by one, but at the maximum it changes nothing [01, calls: Semaphore 2].
   module _ (none : semaphoreQueue k i ≡ []) where
@@ -100,7 +101,7 @@ module _ (k : Kernel) (c : Call) where
   module _ (none : semaphore k (c .a) .count ≡ 0) where
     -- the caller waits behind its equals in the semaphore's queue
     pub pend-blocks : Standing (threadsOf k) → Runnable (thread k (k .runner))
-        → Blocked (ForSemaphore (c .a)) (c .c) (semaphoreHome (c .a)) (k .runner) k (pendSemaphore k c)
+        → Blocked (ForSemaphore (c .a)) (c .c) (home ofSemaphores (c .a)) (k .runner) k (pendSemaphore k c)
     unfolding pendSemaphore
     pend-blocks S R = rw none (block-blocks k S R (ForSemaphore (c .a)) (c .c) refl (omega arith))
 

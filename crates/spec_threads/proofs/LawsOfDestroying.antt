@@ -14,6 +14,7 @@ use Rattle.base_queue.proofs.Counts.{keep-keep, keep-same}
 use Rattle.base_queue.proofs.Queues.{items-pack}
 use Rattle.spec_kernel.specs.declared.records.Message.{Message}
 use Rattle.spec_kernel.specs.declared.records.Kernel.{Kernel}
+use Rattle.spec_kernel.specs.Sizes.{threadCount}
 use Rattle.spec_kernel.specs.Records.{thread, message, noThread, noMessage}
 use Rattle.spec_kernel.specs.Places.{nowhere, homeOf, atHome, timeQueue, onChannel, channel}
 use Rattle.spec_moves.specs.Standing.{threadsOf, postsOf, Standing, Filed}
@@ -93,7 +94,7 @@ module _ (k : Kernel) (a : ℕ) where
       (λ e. rw (e, owned-means (message k m) e .1, ne-eqb a t (λ z. ne (sym z))))
       (λ e. rw e)
 
-pub destroy-destroys : (k : Kernel) (c : Call) → Standing (threadsOf k) → Filed (postsOf k) → c .a < 32
+pub destroy-destroys : (k : Kernel) (c : Call) → Standing (threadsOf k) → Filed (postsOf k) → c .a < threadCount
     → Destroyed (c .a) k (destroyThread k c)
 unfolding destroyThread freeMessages homeOf
 destroy-destroys k c S F id =

@@ -17,6 +17,7 @@ use Rattle.spec_kernel.specs.declared.records.Thread.{Thread}
 use Rattle.spec_kernel.specs.declared.records.Kernel.{Kernel}
 use Rattle.spec_moves.specs.declared.parts.Threads.{Threads}
 use Rattle.spec_moves.specs.declared.parts.Posts.{Posts}
+use Rattle.spec_kernel.specs.Sizes.{threadCount, messageCount}
 use Rattle.spec_kernel.specs.Records.{noThread, noMessage}
 use Rattle.spec_kernel.specs.Conditions.{isReady, readyFor}
 use Rattle.spec_kernel.specs.Places.{nowhere, homeFor, homeOf, hasHome, rankOf, isQueued}
@@ -63,7 +64,7 @@ stopped-home r l e = rw l (go (r .condition) (rw l at e))
 
 module _ {p : Threads} (S : Standing p) where
   -- a live thread has an id
-  pub live-id : (t : ℕ) → threadIn p t .live ≡ true → t < 32
+  pub live-id : (t : ℕ) → threadIn p t .live ≡ true → t < threadCount
   live-id t e = live-inside (λ r. r .live) noThread refl (p .records) (S .count) t e
 
   module _ (t h : ℕ) where
@@ -122,7 +123,7 @@ module _ {q : Posts} (F : Filed q) (m : ℕ) where
   posted-live c = and-eq-true-iff (messageIn q m .live) (ltb 0 (messageIn q m .channel)) .0 (posted-queued c) .0
 
   -- a live message has an id
-  pub message-id : messageIn q m .live ≡ true → m < 64
+  pub message-id : messageIn q m .live ≡ true → m < messageCount
   message-id e = live-inside (λ r. r .live) noMessage refl (q .records) (F .count) m e
 
   -- nobody stands there twice
@@ -142,9 +143,9 @@ place-only t r k = record {
 -- the time queue stays where the ticks left do
 pub time-stays : (p : Threads) (t : ℕ) (r : Thread) → threadIn p t .ticks ≡ r .ticks → relocate t r p .time ≡ p .time
 unfolding relocate
-time-stays p t r e = cases (ltb t 32) (λ z. rw (z, eq-eqb (threadIn p t .ticks) (r .ticks) e)) (λ z. rw z)
+time-stays p t r e = cases (ltb t threadCount) (λ z. rw (z, eq-eqb (threadIn p t .ticks) (r .ticks) e)) (λ z. rw z)
 
-module _ {p : Threads} (S : Standing p) (t : ℕ) (h : t < 32) (r : Thread) where
+module _ {p : Threads} (S : Standing p) (t : ℕ) (h : t < threadCount) (r : Thread) where
   -- with no ticks left a thread has left it; the others keep their order there
   pub time-left : r .ticks ≡ 0 → items (relocate t r p .time) ≡ without t (items (p .time))
   time-left e =
@@ -160,7 +161,7 @@ module _ {p : Threads} (S : Standing p) (t : ℕ) (h : t < 32) (r : Thread) wher
       let T : Table noThread (λ s. ltb 0 (s .ticks)) (λ s. s .ticks) (p .records) (p .time) =
       record { out = refl; few = omega (arith, S .count); tidy = S .tidyTime; placed = S .timed; ordered = S .inTime } in
       let all : (l : List ℕ) → keep (λ _. true) l ≡ l = λ l. keep-all l (λ _ _. refl) in
-      rw (lt-ltb t 32 h, ne-eqb (threadIn p t .ticks) (r .ticks) (λ z. omega arith))
+      rw (lt-ltb t threadCount h, ne-eqb (threadIn p t .ticks) (r .ticks) (λ z. omega arith))
       ((simp all at (table-joins T t (omega (arith, S .count)) r (λ _. true) (lt-ltb 0 (r .ticks) b) refl))
       ∙ ap (behind (λ u. ltb (r .ticks) (threadIn p u .ticks)) t) (without-absent t (items (p .time)) (time-absent S t e)))
 

@@ -14,6 +14,7 @@ use Rattle.base_queue.specs.Queues.{items}
 use Rattle.spec_kernel.specs.declared.records.Condition.{Condition}
 use Rattle.spec_kernel.specs.declared.records.Condition.the-variants.{Ready, Asleep, ForSemaphore, ForEvent, ForMessage}
 use Rattle.spec_kernel.specs.declared.records.Kernel.{Kernel}
+use Rattle.spec_kernel.specs.Sizes.{threadCount}
 use Rattle.spec_kernel.specs.Records.{thread, noThread}
 use Rattle.spec_kernel.specs.Conditions.{isReady, readyFor}
 use Rattle.spec_kernel.specs.Places.{nowhere, homeFor, homeOf, readyHome, atHome, readyList, semaphoreQueue, eventQueue, timeQueue}
@@ -86,7 +87,7 @@ module _ (k : Kernel) (c : Call) where
         let r = newborn (c .a) in
         let (i, z, b, free, lowest) = free-from (λ r. r .live) noThread 0 (k .threads) room in
         let e : t ≡ i = omega arith in
-        let id : t < 32 = omega (arith, S .count) in
+        let id : t < threadCount = omega (arith, S .count) in
         let none : homeOf (thread k t) ≡ nowhere = rw (e, free) in
         record {
           free = rw e free;

@@ -14,7 +14,10 @@ use Rattle.spec_kernel.specs.declared.records.Kernel.{Kernel}
 use Rattle.spec_kernel.specs.Records.{thread, message, noThread, noMessage}
 use Rattle.spec_kernel.specs.Free.{freeThread}
 use Rattle.spec_calls.specs.declared.call.Call.{Call}
-use Rattle.spec_moves.specs.States.{withPosts, moveThread, asByte}
+use Rattle.spec_moves.specs.declared.parts.Threads.{Threads}
+use Rattle.spec_moves.specs.Moves.{relocate, threadIn}
+use Rattle.spec_moves.specs.Standing.{atHomeIn}
+use Rattle.spec_moves.specs.States.{withPosts, moveThread, each, asByte}
 
 -- A new thread's record: ready, this priority its first one too, wake reason none, reply 255 [01, calls: Blocking 5].
 abbrev pub born : ℕ → Thread
@@ -66,6 +69,14 @@ block condition timeout k = moveThread (k .runner) (blocked condition timeout (t
 -- Thread t wakes: out of its queues and last in the list of its priority; no message came, so its reply stays [01, calls: Blocking 3, 5].
 unfoldable pub wake : Wake → ℕ → Kernel → Kernel
 wake why t k = moveThread t (awake why (thread k t .reply) (thread k t)) k
+
+-- over the part that threads move in: thread t wakes as met
+unfoldable pub wakeIn : ℕ → Threads → Threads
+wakeIn t p = relocate t (awake Wake.Met (threadIn p t .reply) (threadIn p t)) p
+
+-- all that stand in an object's queue wake, in queue order: the one place that empties a queue
+unfoldable pub wokenIn : ℕ → Threads → Threads
+wokenIn home p = each wakeIn (atHomeIn p home) p
 
 -- kind 2: create thread, priority a
 unfoldable pub createThread : Kernel → Call → Kernel

@@ -19,6 +19,7 @@ use Rattle.spec_kernel.specs.declared.records.Thread.{Thread}
 use Rattle.spec_kernel.specs.declared.records.Semaphore.{Semaphore}
 use Rattle.spec_kernel.specs.declared.records.Kernel.{Kernel}
 use Rattle.spec_moves.specs.declared.parts.Threads.{Threads}
+use Rattle.spec_kernel.specs.Sizes.{semaphoreCount}
 use Rattle.spec_kernel.specs.Records.{thread, semaphore, noThread}
 use Rattle.spec_kernel.specs.Places.{homeOf, atHome, readyList, semaphoreQueue, timeQueue}
 use Rattle.spec_moves.specs.Moves.{threadIn}
@@ -202,7 +203,7 @@ module _ {A : Type 0} (g : Kernel → A) (threads : (p : Threads) (k : Kernel) �
 
   tick-hides : (k : Kernel) (c : Call) → g (tick k c) ≡ g (withUptime (later (k .uptime)) k)
   unfolding tick
-  tick-hides k c = pulses-hide 0 16 _ ∙ threads _ _
+  tick-hides k c = pulses-hide 0 semaphoreCount _ ∙ threads _ _
 
 module _ (k : Kernel) (c : Call) where
   -- One tick more of uptime; after 4,294,967,295 comes 0 [01, calls: Tick 1].

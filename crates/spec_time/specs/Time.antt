@@ -12,6 +12,7 @@ use Rattle.spec_kernel.specs.declared.records.Wake.{Wake}
 use Rattle.spec_kernel.specs.declared.records.Thread.{Thread}
 use Rattle.spec_kernel.specs.declared.records.Kernel.{Kernel}
 use Rattle.spec_moves.specs.declared.parts.Threads.{Threads}
+use Rattle.spec_kernel.specs.Sizes.{semaphoreCount}
 use Rattle.spec_kernel.specs.Records.{semaphore}
 use Rattle.spec_moves.specs.Moves.{relocate, threadIn}
 use Rattle.spec_moves.specs.Standing.{threadsOf}
@@ -73,4 +74,4 @@ pulseFrom i (suc n) k = pulseFrom (suc i) n (pulse i k)
 
 -- kind 1
 unfoldable pub tick : Kernel → Call → Kernel
-tick k c = pulseFrom 0 16 (withThreads (timePasses (threadsOf k)) (withUptime (later (k .uptime)) k))
+tick k c = pulseFrom 0 semaphoreCount (withThreads (timePasses (threadsOf k)) (withUptime (later (k .uptime)) k))

@@ -11,6 +11,7 @@
 //   b u v r  the event bits, the unscheduled and the critical level, the runner
 ghost use Prim.Native.Nat.{_≤_};
 ghost use lib.ListN.{length};
+use base_queue::CAPACITY;
 use base_queue::Queue;
 use spec_kernel::records::Condition;
 use spec_kernel::records::Event;
@@ -19,6 +20,7 @@ use spec_kernel::records::Message;
 use spec_kernel::records::Semaphore;
 use spec_kernel::records::Thread;
 use spec_kernel::records::Wake;
+use spec_kernel::sizes;
 
 // What a line changes: a kind of record with its id, or a table.
 struct Choice {
@@ -150,7 +152,7 @@ fn changed_message(r: Message, c: u8, n: u32) -> Message {
 fn through(q: Queue, n: u32) -> Queue {
     let mut next = q;
     let mut i = base_queue::size(q);
-    while i < 64 {
+    while i < CAPACITY {
         if n < i as u32 {
             return next;
         }
@@ -160,17 +162,19 @@ fn through(q: Queue, n: u32) -> Queue {
     next
 }
 
+const LAST: usize = CAPACITY - 1;
+
 // Another length, and garbage in the last place.
 fn garbled(q: Queue, length: u8) -> Queue {
     let mut next = q;
-    next.at[63] = 1;
+    next.at[LAST] = 1;
     next.n = length;
     next
 }
 
 fn changed_table(q: Queue, c: u8, n: u32) -> Queue {
     match c {
-        b',' => base_queue::with_at(q, 64, byte(n)),
+        b',' => base_queue::with_at(q, CAPACITY, byte(n)),
         b'-' => through(q, n),
         b'L' => garbled(q, byte(n)),
         b' ' => q,
@@ -182,12 +186,12 @@ fn changed_table(q: Queue, c: u8, n: u32) -> Queue {
 
 fn with_thread(k: Kernel, id: usize, c: u8, n: u32) -> Kernel {
     let mut next = k;
-    if 32 <= id {
+    if sizes::THREADS <= id {
         return next;
     }
     let r = changed_thread(k.threads[id], c, n);
     if c == b'*' {
-        let all = [r; 32];
+        let all = [r; sizes::THREADS];
         next.threads = all;
         return next;
     }
@@ -197,7 +201,7 @@ fn with_thread(k: Kernel, id: usize, c: u8, n: u32) -> Kernel {
 
 fn with_semaphore(k: Kernel, id: usize, c: u8, n: u32) -> Kernel {
     let mut next = k;
-    if 16 <= id {
+    if sizes::SEMAPHORES <= id {
         return next;
     }
     next.semaphores[id] = changed_semaphore(k.semaphores[id], c, n);
@@ -206,7 +210,7 @@ fn with_semaphore(k: Kernel, id: usize, c: u8, n: u32) -> Kernel {
 
 fn with_event(k: Kernel, id: usize, c: u8, n: u32) -> Kernel {
     let mut next = k;
-    if 8 <= id {
+    if sizes::EVENTS <= id {
         return next;
     }
     next.events[id] = changed_event(k.events[id], c, n);
@@ -215,12 +219,12 @@ fn with_event(k: Kernel, id: usize, c: u8, n: u32) -> Kernel {
 
 fn with_message(k: Kernel, id: usize, c: u8, n: u32) -> Kernel {
     let mut next = k;
-    if 64 <= id {
+    if sizes::MESSAGES <= id {
         return next;
     }
     let r = changed_message(k.messages[id], c, n);
     if c == b'*' {
-        let all = [r; 64];
+        let all = [r; sizes::MESSAGES];
         next.messages = all;
         return next;
     }

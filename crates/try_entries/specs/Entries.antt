@@ -7,6 +7,7 @@ use lib.ListN.{length, take, drop, getD, replicate}
 use Rattle.base_queue.specs.Lists.{firstOf}
 use Rattle.spec_kernel.specs.declared.records.Kernel.{Kernel}
 use Rattle.base_bytes.specs.Bytes.{begins}
+use Rattle.spec_notes.specs.Notes.{threadsIn, semaphoresIn, messagesIn}
 use Rattle.spec_notes.specs.Frames.{framesOf, sectionsIn}
 use Rattle.code_notes_frame.specs.Meant.{recordOf}
 use Rattle.spec_answers.specs.declared.Answer.{Answer}
@@ -20,10 +21,10 @@ use Rattle.try_entries.specs.Returned.{sameAnswer, cameBack}
 -- the value of the call that a note tells of: the id of what it created, or of the message that it took, is the first of its section
 unfoldable pub valueIn : List ℕ → ℕ
 valueIn note =
-    let s = sectionsIn (framesOf note) in
+    let x = sectionsIn (framesOf note) in
     let kind = getD note 0 0 in
-    cond (eqb kind 2) (firstOf (s .threads))
-    (cond (eqb kind 14) (firstOf (s .semaphores)) (cond (eqb kind 24 || eqb kind 27) (firstOf (s .messages)) 255))
+    cond (eqb kind 2) (firstOf (threadsIn x))
+    (cond (eqb kind 14) (firstOf (semaphoresIn x)) (cond (eqb kind 24 || eqb kind 27) (firstOf (messagesIn x)) 255))
 
 -- the call of a note on a state, with an empty log of its own, yields this end state and this very note, with the answer that it tells
 unfoldable pub yieldsNote : Kernel → List ℕ → Kernel → Bool

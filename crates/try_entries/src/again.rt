@@ -38,13 +38,14 @@ fn first_of(part: &[u8]) -> u8
 fn value_in(note: &[u8]) -> u8
     ensures { λ r. ⌜ r ≡ valueIn (now (note .entry)) ⌝ }
 {
-    let Decoded::Sections(f) = frames::frames_of(note) else {
+    let Decoded::Sections(p) = frames::frames_of(note) else {
         return 255;
     };
+    let s = frames::part_of(note, p);
     match byte_at(note, 0) {
-        2 => first_of(frames::part_of(note, f.threads)),
-        14 => first_of(frames::part_of(note, f.semaphores)),
-        24 | 27 => first_of(frames::part_of(note, f.messages)),
+        2 => first_of(frames::section_of(s, frames::THREADS_AT)),
+        14 => first_of(frames::section_of(s, frames::SEMAPHORES_AT)),
+        24 | 27 => first_of(frames::section_of(s, frames::MESSAGES_AT)),
         _ => 255,
     }
 }

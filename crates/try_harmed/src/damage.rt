@@ -1,5 +1,6 @@
 // Damage to a state: one field of one record, one table or the state itself gets a value that a generator draws, and so does the record's
 // id or the table's place.
+use base_queue::CAPACITY;
 use base_queue::Queue;
 use spec_kernel::records::Condition;
 use spec_kernel::records::Event;
@@ -8,6 +9,7 @@ use spec_kernel::records::Message;
 use spec_kernel::records::Semaphore;
 use spec_kernel::records::Thread;
 use spec_kernel::records::Wake;
+use spec_kernel::sizes;
 
 // Threads have 7 fields, semaphores 5, events 3, messages 7, the tables 6 (length and one place of each of three), and the state 5 more
 // (bits, uptime, two levels, runner).
@@ -127,7 +129,7 @@ fn damaged_message(r: Message, d: Damage) -> Message {
 // A table: the field numbers of its length and of its places.
 fn damaged_table(q: Queue, d: Damage, length: u8, places: u8) -> Queue {
     let mut next = q;
-    let i = d.id % 64;
+    let i = d.id % CAPACITY;
     next.n = byte(d, length, q.n);
     next.at[i] = byte(d, places, q.at[i]);
     next
@@ -135,10 +137,10 @@ fn damaged_table(q: Queue, d: Damage, length: u8, places: u8) -> Queue {
 
 // A record of each kind struck.
 fn with_records(mut k: Kernel, d: Damage) -> Kernel {
-    let t = d.id % 32;
-    let s = d.id % 16;
-    let e = d.id % 8;
-    let m = d.id % 64;
+    let t = d.id % sizes::THREADS;
+    let s = d.id % sizes::SEMAPHORES;
+    let e = d.id % sizes::EVENTS;
+    let m = d.id % sizes::MESSAGES;
     k.threads[t] = damaged_thread(k.threads[t], d);
     k.semaphores[s] = damaged_semaphore(k.semaphores[s], d);
     k.events[e] = damaged_event(k.events[e], d);

@@ -6,16 +6,16 @@ use native.Mathlib.Omega.{arith}
 use lib.ListN.{length, take}
 use lib.Seq.{take-all}
 use borrow.Author.Needs.{needs}
-use Rattle.base_queue.specs.Queues.{pad}
+use Rattle.base_queue.specs.Queues.{capacity, pad}
 use Rattle.base_queue.proofs.Queues.{pad-next}
 use Rattle.base_queue.proofs.fronted.Statement.{statement}
 use Rattle.base_queue.proofs.fronted.Tie as tie
 
 abbrev Inv-loop : tie.InvT-loop
-Inv-loop k at a₀ i₀ a i = (i ≤ k) × (i ≤ 64) × (length at ≡ 64) × (a ≡ pad (take i at))
+Inv-loop k at a₀ i₀ a i = (i ≤ k) × (i ≤ capacity) × (length at ≡ capacity) × (a ≡ pad (take i at))
 
 abbrev μ-loop : tie.MeasureT-loop
-μ-loop k at a₀ i₀ a i = 64 - i
+μ-loop k at a₀ i₀ a i = capacity - i
 
 loop-holds : tie.Need-loop-holds Inv-loop μ-loop
 loop-holds c = (omega arith, omega arith, search needs, refl)

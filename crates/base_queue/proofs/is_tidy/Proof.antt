@@ -10,7 +10,7 @@ use borrow.Author.Needs.{needs}
 use borrow.Author.Tests.{eq-eqb, ne-eqb, le-leb, lt-leb}
 use Rattle.base_queue.specs.declared.Queue.{Queue}
 use Rattle.base_queue.specs.Lists.{everyFrom, allZero}
-use Rattle.base_queue.specs.Queues.{isTidy}
+use Rattle.base_queue.specs.Queues.{capacity, isTidy}
 use Rattle.base_queue.proofs.Lists.{every-next, every-stop, every-end, every-anywhere}
 use Rattle.base_queue.proofs.is_tidy.Statement.{statement}
 use Rattle.base_queue.proofs.is_tidy.Tie as tie
@@ -19,14 +19,14 @@ abbrev test : ℕ → ℕ → Bool
 test _ x = eqb x 0
 
 abbrev Inv-loop : tie.InvT-loop
-Inv-loop at i₀ i = (i ≤ 64) × (length at ≡ 64) × (allZero (drop i₀ at) ≡ everyFrom test i (drop i (take 64 at)))
+Inv-loop at i₀ i = (i ≤ capacity) × (length at ≡ capacity) × (allZero (drop i₀ at) ≡ everyFrom test i (drop i (take capacity at)))
 
 abbrev μ-loop : tie.MeasureT-loop
-μ-loop at i₀ i = 64 - i
+μ-loop at i₀ i = capacity - i
 
 returns : tie.Need-returns Inv-loop μ-loop
 unfolding isTidy
-returns c = rw (lt-leb (c .before .before .before .args .q .n) 64 (omega arith))
+returns c = rw (lt-leb (c .before .before .before .args .q .n) capacity (omega arith))
 
 cast-i : tie.Need-cast-i Inv-loop μ-loop
 cast-i c = search needs
@@ -34,8 +34,8 @@ cast-i c = search needs
 loop-holds : tie.Need-loop-holds Inv-loop μ-loop
 loop-holds c =
     let q : Queue = c .before .before .before .before .args .q in
-    let e : length (q .at) ≡ 64 = search needs in
-    (omega arith, e, rw (take-all 64 (q .at) (omega arith)) (every-anywhere (test 0) 0 (q .n) (drop (q .n) (q .at))))
+    let e : length (q .at) ≡ capacity = search needs in
+    (omega arith, e, rw (take-all capacity (q .at) (omega arith)) (every-anywhere (test 0) 0 (q .n) (drop (q .n) (q .at))))
 
 array-read-if2 : tie.Need-array-read-if2 Inv-loop μ-loop
 array-read-if2 c = search needs
@@ -45,7 +45,7 @@ unfolding isTidy
 returns-2 c =
     let q : Queue = c .before .before .before .before .before .before .before .args .q in
     let l = c .before .before .loop in
-    let p = every-stop test 0 (q .at) 64 (l .i) (omega arith) (omega arith) (ne-eqb _ _ (c .if2 .taken)) in
+    let p = every-stop test 0 (q .at) capacity (l .i) (omega arith) (omega arith) (ne-eqb _ _ (c .if2 .taken)) in
     rw (le-leb _ _ (c .before .before .before .before .if1 .left), l .inv .2, p)
 
 add-i : tie.Need-add-i Inv-loop μ-loop
@@ -58,7 +58,7 @@ loop-again : tie.Need-loop-again Inv-loop μ-loop
 loop-again c =
     let q : Queue = c .before .before .before .before .before .before .before .args .q in
     let l = c .before .before .loop in
-    let p = every-next test 0 (q .at) 64 (l .i) (omega arith) (omega arith) (eq-eqb _ _ (c .if2 .left)) in
+    let p = every-next test 0 (q .at) capacity (l .i) (omega arith) (omega arith) (eq-eqb _ _ (c .if2 .left)) in
     (omega arith, l .inv .1, l .inv .2 ∙ p)
 
 returns-3 : tie.Need-returns-3 Inv-loop μ-loop
@@ -66,7 +66,7 @@ unfolding isTidy
 returns-3 c =
     let q : Queue = c .before .before .before .before .before .before .args .q in
     let l = c .before .loop in
-    let p = every-end test 0 (q .at) 64 (l .i) (omega arith) in
+    let p = every-end test 0 (q .at) capacity (l .i) (omega arith) in
     rw (le-leb _ _ (c .before .before .before .if1 .left), l .inv .2, p)
 
 pub is-tidy-spec : {M : Type 1} → statement M

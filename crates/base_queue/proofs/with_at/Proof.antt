@@ -11,7 +11,7 @@ use borrow.Author.Needs.{needs}
 use borrow.Author.Tests.{lt-ltb, le-ltb}
 use Rattle.base_queue.specs.declared.Queue.{Queue}
 use Rattle.base_queue.specs.Lists.{withAt}
-use Rattle.base_queue.specs.Queues.{items, pad, roomFor}
+use Rattle.base_queue.specs.Queues.{capacity, items, pad, roomFor}
 use Rattle.base_queue.proofs.Lists.{take-front, withAt-here, withAt-after, withAt-min, length-withAt}
 use Rattle.base_queue.proofs.Queues.{Walk, walk-start, sized-items, pad-next, pad-full, queue-eq}
 use Rattle.base_queue.proofs.with_at.Statement.{statement}
@@ -19,7 +19,7 @@ use Rattle.base_queue.proofs.with_at.Tie as tie
 
 abbrev Inv-loop : tie.InvT-loop
 Inv-loop i x at n place a₀ k₀ a k =
-    Walk at n k × (n < 64) × (place ≡ min i n) × (place ≤ k) × (a ≡ pad (take (k + 1) (withAt place x (take n at))))
+    Walk at n k × (n < capacity) × (place ≡ min i n) × (place ≤ k) × (a ≡ pad (take (k + 1) (withAt place x (take n at))))
 
 abbrev μ-loop : tie.MeasureT-loop
 μ-loop i x at n place a₀ k₀ a k = n - k
@@ -32,8 +32,8 @@ unfolding roomFor
 returns c =
     let q : Queue = c .before .before .before .args .q in
     let n : ℕ = c .before .size .result in
-    let e : length (q .at) ≡ 64 = search needs in
-    rw (le-ltb (length (items q)) 64 (omega arith), sized-items q n (c .before .size .ensures), take-all n (q .at) (omega arith))
+    let e : length (q .at) ≡ capacity = search needs in
+    rw (le-ltb (length (items q)) capacity (omega arith), sized-items q n (c .before .size .ensures), take-all n (q .at) (omega arith))
     (queue-eq (sym e) (sym (pad-full (q .at) e)))
 
 fronted-requires : tie.Need-fronted-requires Inv-loop μ-loop
@@ -112,7 +112,7 @@ returns-2 c =
     let b = length-withAt (a .x) p s in
     let m : min (a .i) (length s) ≡ p = omega arith in
     rw (
-      lt-ltb (length (items (a .q))) 64 (omega arith),
+      lt-ltb (length (items (a .q))) capacity (omega arith),
       sized-items (a .q) n (c .before .before .before .before .before .size .ensures),
       withAt-min (a .x) (a .i) s,
       m,

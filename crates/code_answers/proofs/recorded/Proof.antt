@@ -1,5 +1,5 @@
 -- `code_answers::recorded` meets its contract: the sections one behind the other are the note, and what the writer leaves is the log.
-use Prim.Native.Nat.{ℕ, _≤_, _<_}
+use Prim.Native.Nat.{ℕ, _≤_}
 use mathlib.Core.Path.{_≡_, sym, ap, _∙_}
 use mathlib.Core.List.{List}
 use native.Mathlib.Omega.{arith}
@@ -9,16 +9,16 @@ use borrow.Author.Needs.{needs}
 use Rattle.base_bytes.specs.Pens.{pen, puts}
 use Rattle.base_bytes.specs.Logs.{noted, ends}
 use Rattle.spec_kernel.specs.declared.records.Kernel.{Kernel}
-use Rattle.spec_calls.specs.declared.call.Call.{Call}
+use Rattle.spec_kernel.specs.Sizes.{threadCount}
 use Rattle.spec_calls.specs.Calls.{callOf}
 use Rattle.spec_refusals.specs.Refusals.{numberOf}
-use Rattle.code_calls.specs.declared.named.Named.{Named}
-use Rattle.code_notes_spans.specs.Spans.{frontIn, noteIn}
+use Rattle.spec_refusals.specs.declared.named.Named.{Named}
+use Rattle.spec_notes.specs.Notes.{beforeLength, noteOf, longestNote}
 use Rattle.code_notes.proofs.BeforeLength.{note-closed, note-short}
 use Rattle.code_notes.proofs.Sizes.{composed}
 use Rattle.spec_answers.specs.declared.Answer.{Answer}
 use Rattle.spec_answers.specs.Steps.{nextState}
-use Rattle.spec_answers.specs.Logs.{logged}
+use Rattle.spec_answers.specs.Logs.{logged, stateAfter}
 use Rattle.code_answers.proofs.Numbers.{number-by, value-by}
 use Rattle.code_answers.proofs.Recording.{ends-refused, Left, left}
 use Rattle.code_answers.proofs.Sections.{one-by-one}
@@ -37,16 +37,16 @@ number-of-requires c κs = search needs
 refused-requires : tie.Need-refused-requires
 refused-requires c κs = search needs
 
+-- every id has a record
+all : (c : tie.Start) → length (c .args .k .threads) ≡ threadCount
+all c = sym (length-map (c .args .k .threads) _) ∙ c .good .0 .1 .1 .0 .1 .0 .1
+
 -- the call's number, by the bytes
 number : (c : tie.After-number-of)
     → let a = c .before .before .before .before .args in c .number-of .result ≡ numberOf (a .k) (callOf (a .bytes))
 number c =
-    let s = c .before .before .before .before in
-    let k = s .args .k in
-    let all : length (k .threads) ≡ 32 = sym (length-map (k .threads) _) ∙ s .good .0 .1 .1 .0 .1 .0 .1 in
-    let byte : c .before .before .call-of .result .a < 256 = omega arith in
-    number-by k _ (callOf (s .args .bytes)) _ (c .before .named-by .ensures) (c .before .before .call-of .ensures) all byte
-    (c .number-of .ensures)
+    let a = c .before .before .before .before .args in
+    number-by (a .k) _ (callOf (a .bytes)) _ (c .before .named-by .ensures) (c .before .before .call-of .ensures) (c .number-of .ensures)
 
 returns : tie.Need-returns
 returns c =
@@ -119,14 +119,22 @@ named c = number-of c .before .named-by .result
 abbrev next : tie.After-put-message-part → Kernel
 next c = next-of c .next-state .result
 
+-- the call is accepted, and leads to the next state
+accepts : (c : tie.After-put-message-part) → numberOf (kernel c) (callOf (record-bytes c)) ≡ 0
+accepts c = sym (number (number-of c)) ∙ next-of c .before .if1 .left
+
+leads : (c : tie.After-put-message-part) → next c ≡ stateAfter (kernel c) (record-bytes c)
+leads c = next-of c .next-state .ensures ∙ ap (nextState (kernel c)) (number-of c .before .before .call-of .ensures)
+
 -- the record and the sections, one behind the other
 sections : (c : tie.After-put-message-part)
     → pen (c .put-message-part .last .0) (c .put-message-part .result)
-    ≡ puts (pen (replicate 2048 0) 0) (frontIn (kernel c) (record-bytes c) (next c) (named c .found))
+    ≡ puts (pen (replicate longestNote 0) 0) (beforeLength (kernel c) (record-bytes c) (next c))
 sections c =
-    one-by-one (kernel c) (next c) (record-bytes c) _ (named c) _ _ _ _ _ _ (number-of c .before .before .call-of .ensures)
-    (number-of c .before .named-by .ensures) (start-of c .put-start .ensures) (threads-of c .put-thread-part .ensures)
-    (semaphores-of c .put-semaphore-part .ensures) (events-of c .put-event-part .ensures) (c .put-message-part .ensures)
+    one-by-one (kernel c) (next c) (record-bytes c) _ (named c) _ _ _ _ _ _ (all (number-of c .before .before .before .before)) (accepts c)
+    (number-of c .before .before .call-of .ensures) (number-of c .before .named-by .ensures) (leads c) (start-of c .put-start .ensures)
+    (threads-of c .put-thread-part .ensures) (semaphores-of c .put-semaphore-part .ensures) (events-of c .put-event-part .ensures)
+    (c .put-message-part .ensures)
 
 slice-aggregate-put-end : tie.Need-slice-aggregate-put-end
 slice-aggregate-put-end c = search needs
@@ -141,14 +149,15 @@ messages-of c = c .before .before .before
 composed-note : (c : tie.After-put-end)
     → let m = messages-of c in
     (c .put-end .result ≤ length (c .put-end .last .0))
-    × (take (c .put-end .result) (c .put-end .last .0) ≡ noteIn (kernel m) (record-bytes m) (next m) (named m .found))
+    × (take (c .put-end .result) (c .put-end .last .0) ≡ noteOf (kernel m) (record-bytes m) (next m))
 composed-note c =
     let m = messages-of c in
     let sixteen : length (record-bytes m) ≡ 16 = number-of m .before .before .before .before .good .1 .0 .1 .0 .1 in
-    let room : 2048 ≤ length {A = ℕ} (replicate 2048 0) = rw length-replicate (omega arith) in
-    let e = note-closed (replicate 2048 0) _ _ (kernel m) (record-bytes m) _ _ _ sixteen room (sections m) (c .put-end .ensures) in
-    let short = note-short (kernel m) (record-bytes m) (next m) (named m .found) sixteen in
-    let w = composed (replicate 2048 0) _ _ _ e (rw length-replicate (omega (arith, short))) in
+    let room : longestNote ≤ length {A = ℕ} (replicate longestNote 0) = rw length-replicate (omega arith) in
+    let e =
+    note-closed (kernel m) (record-bytes m) (next m) sixteen (replicate longestNote 0) _ _ _ room (sections m) (c .put-end .ensures) in
+    let short = note-short (kernel m) (record-bytes m) (next m) sixteen in
+    let w = composed (replicate longestNote 0) _ _ _ e (rw length-replicate (omega (arith, short))) in
     (w .0, w .1)
 
 array-share-prefix-buffer : tie.Need-array-share-prefix-buffer
@@ -173,16 +182,13 @@ written c =
     let s = number-of m .before .before .before .before in
     let k = kernel m in
     let bytes = record-bytes m in
-    let x = number-of m .before .before .call-of .ensures in
     let sixteen : length bytes ≡ 16 = s .good .1 .0 .1 .0 .1 in
-    let all : length (k .threads) ≡ 32 = sym (length-map (k .threads) _) ∙ s .good .0 .1 .1 .0 .1 .0 .1 in
-    let n = noteIn k bytes (next m) (named m .found) in
+    let n = noteOf k bytes (next m) in
     let w : (c .write .last .0 ≡ noted (s .args .log .now) (s .args .used) n)
     × (c .write .result ≡ ends (s .args .log .now) (s .args .used) n) =
     rw (← composed-note (end-of c) .1) (c .write .ensures) in
-    left k bytes (s .args .log .now) _ (s .args .used) _ _ _ sixteen all (sym (number (number-of m)) ∙ next-of m .before .if1 .left)
-    (value-by k _ (callOf bytes) _ (number-of m .before .named-by .ensures) x)
-    (next-of m .next-state .ensures ∙ ap (λ (y : Call). nextState k y) x) w
+    left k bytes (s .args .log .now) _ (s .args .used) _ _ _ sixteen (accepts m)
+    (value-by k _ (callOf bytes) _ (number-of m .before .named-by .ensures) (number-of m .before .before .call-of .ensures)) (leads m) w
 
 given-requires : tie.Need-given-requires
 given-requires c κs = search needs

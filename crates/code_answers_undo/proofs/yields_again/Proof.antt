@@ -3,7 +3,7 @@ use Prim.Native.Nat.{ℕ, _≤_}
 use mathlib.Core.Path.{_≡_, sym, _∙_}
 use mathlib.Core.Bool.{true}
 use mathlib.Core.List.{List}
-use lib.ListN.{length, take, length-map}
+use lib.ListN.{length, take}
 use lib.Seq.{length-take-le}
 use borrow.Author.Tests.{not-true, not-false}
 use borrow.Author.Needs.{needs}
@@ -53,14 +53,11 @@ rules c = let t = c .before .before .before .keeps-rules in sym (t .ensures) ∙
 sixteen : (c : tie.After-recorded) → length (bytes₀ c) ≡ 16
 sixteen c = c .before .before .before .before .before .good .1 .0 .1 .0 .1
 
-all : (c : tie.After-recorded) → length (old₀ c .threads) ≡ 32
-all c = sym (length-map (old₀ c .threads) _) ∙ c .before .before .before .before .before .good .0 .1 .1 .0 .1 .0 .1
-
 returns-2 : tie.Need-returns-2
 returns-2 c = λ l.
     let d : tie.After-recorded = c .before .before .before in
     again-refused (old₀ d) (bytes₀ d) (end₀ d) (note₀ d) l (rules d)
-    (run-refused (old₀ d) (bytes₀ d) (sixteen d) (all d) _ (d .recorded .ensures .0) (c .if2 .taken))
+    (run-refused (old₀ d) (bytes₀ d) (sixteen d) _ (d .recorded .ensures .0) (c .if2 .taken))
 
 same-kernel-requires : tie.Need-same-kernel-requires
 same-kernel-requires c κs = search needs
@@ -73,9 +70,9 @@ ran : (c : tie.After-recorded) → c .recorded .result .answer .number ≡ 0
     × (take (l .used) (c .recorded .last .1 .1 .0) ≡ noteFor (old₀ c) (bytes₀ c)) × (l .used ≡ length (noteFor (old₀ c) (bytes₀ c)))
 ran c z =
     let e = c .recorded .ensures in
-    let (x, y, w) = note-stands (old₀ c) (bytes₀ c) (sixteen c) (all c) _ (e .0) z _ (e .1) in (
-      run-accepted (old₀ c) (bytes₀ c) (sixteen c) (all c) _ (e .0) z .0,
-      run-next (old₀ c) (bytes₀ c) (sixteen c) (all c) _ (e .0) z,
+    let (x, y, w) = note-stands (old₀ c) (bytes₀ c) (sixteen c) _ (e .0) z _ (e .1) in (
+      run-accepted (old₀ c) (bytes₀ c) (sixteen c) _ (e .0) z .0,
+      run-next (old₀ c) (bytes₀ c) (sixteen c) _ (e .0) z,
       x,
       y,
       w,

@@ -4,6 +4,7 @@ use native.Mathlib.Omega.{arith}
 use lib.ListN.{length, length-map}
 use lib.Seq.{set-out}
 use borrow.Author.Needs.{needs}
+use Rattle.spec_kernel.specs.Sizes.{eventCount}
 use Rattle.spec_events.specs.Events.{loadEvent}
 use Rattle.code_events.proofs.loaded.Statement.{statement}
 use Rattle.code_events.proofs.loaded.Tie as tie
@@ -26,7 +27,7 @@ unfolding loadEvent
 returns-2 c =
     let s = c .before .before in
     let k = s .args .k in
-    let e : length (k .events) ≡ 8 = sym (length-map (k .events) _) ∙ s .good .0 .1 .1 .1 .1 .0 .1 .0 .1 in
+    let e : length (k .events) ≡ eventCount = sym (length-map (k .events) _) ∙ s .good .0 .1 .1 .1 .1 .0 .1 .0 .1 in
     rw (set-out (k .events) (s .args .c .a) _ (omega arith))
 
 pub loaded-spec : {M : Type 1} → statement M

@@ -3,16 +3,17 @@ use Prim.Native.Nat.{ℕ, _≤_, _-_}
 use mathlib.Core.Path.{_≡_, refl, sym, ap, _∙_}
 use native.Mathlib.Omega.{arith}
 use borrow.Author.Needs.{needs}
+use Rattle.spec_kernel.specs.Sizes.{eventCount}
 use Rattle.spec_events.specs.Events.{workOutFrom}
 use Rattle.code_events.proofs.Works.{work-true, work-false}
 use Rattle.code_events.proofs.worked_in.Statement.{statement}
 use Rattle.code_events.proofs.worked_in.Tie as tie
 
 abbrev Inv-loop : tie.InvT-loop
-Inv-loop bits events next₀ i₀ next i = (i ≤ 8) × (next ≡ workOutFrom events bits 0 i next₀)
+Inv-loop bits events next₀ i₀ next i = (i ≤ eventCount) × (next ≡ workOutFrom events bits 0 i next₀)
 
 abbrev μ-loop : tie.MeasureT-loop
-μ-loop bits events next₀ i₀ next i = 8 - i
+μ-loop bits events next₀ i₀ next i = eventCount - i
 
 loop-holds : tie.Need-loop-holds Inv-loop μ-loop
 unfolding workOutFrom

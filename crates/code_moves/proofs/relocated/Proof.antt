@@ -3,13 +3,14 @@
 use native.Mathlib.Omega.{arith}
 use borrow.Author.Needs.{needs}
 use borrow.Author.Tests.{lt-ltb, le-ltb, eq-eqb, ne-eqb}
+use Rattle.spec_kernel.specs.Sizes.{threadCount}
 use Rattle.spec_moves.specs.Moves.{threadIn, relocate}
 use Rattle.code_moves.proofs.relocated.Statement.{statement}
 use Rattle.code_moves.proofs.relocated.Tie as tie
 
 returns : tie.Need-returns
 unfolding relocate
-returns c = rw (le-ltb (c .before .args .id) 32 (c .if1 .taken))
+returns c = rw (le-ltb (c .before .args .id) threadCount (c .if1 .taken))
 
 mul-old : tie.Need-mul-old
 mul-old c = search needs
@@ -39,7 +40,7 @@ returns-2 c =
     let places = c .before .before .before .before in
     let a = else-of places .before .args in
     rw (
-      lt-ltb (a .id) 32 (else-of places .if1 .left),
+      lt-ltb (a .id) threadCount (else-of places .if1 .left),
       ne-eqb _ _ (c .before .if2 .taken),
       places .rejoined-places .ensures,
       c .rejoined-time .ensures,
@@ -51,7 +52,7 @@ returns-3 c =
     let places = c .before .before .before in
     let a = else-of places .before .args in
     rw (
-      lt-ltb (a .id) 32 (else-of places .if1 .left),
+      lt-ltb (a .id) threadCount (else-of places .if1 .left),
       eq-eqb (threadIn (a .p) (a .id) .ticks) (a .r .ticks) (omega arith),
       places .rejoined-places .ensures,
     )

@@ -4,6 +4,7 @@ use mathlib.Core.Path.{_≡_}
 use native.Mathlib.Omega.{arith}
 use lib.ListN.{length}
 use borrow.Author.Needs.{needs}
+use Rattle.spec_kernel.specs.Sizes.{eventCount}
 use Rattle.spec_kernel.specs.Records.{noEvent}
 use Rattle.code_rules_records.proofs.Answers.{refused, passed}
 use Rattle.spec_notes.specs.Touched.{sameEvent}
@@ -12,15 +13,15 @@ use Rattle.code_notes_same.proofs.same_events.Statement.{statement}
 use Rattle.code_notes_same.proofs.same_events.Tie as tie
 
 abbrev Inv-loop : tie.InvT-loop
-Inv-loop a b i₀ i = Pairs sameEvent a b 8 i
+Inv-loop a b i₀ i = Pairs sameEvent a b eventCount i
 
 abbrev μ-loop : tie.MeasureT-loop
-μ-loop a b i₀ i = 8 - i
+μ-loop a b i₀ i = eventCount - i
 
 loop-holds : tie.Need-loop-holds Inv-loop μ-loop
 loop-holds c =
-    let e : length (c .args .t1) ≡ 8 = search needs in
-    let f : length (c .args .t2) ≡ 8 = search needs in
+    let e : length (c .args .t1) ≡ eventCount = search needs in
+    let f : length (c .args .t2) ≡ eventCount = search needs in
     pairs-start sameEvent (c .args .t1) (c .args .t2) e f
 
 mul-x : tie.Need-mul-x Inv-loop μ-loop

@@ -4,6 +4,7 @@ use mathlib.Core.Path.{_≡_}
 use native.Mathlib.Omega.{arith}
 use lib.ListN.{length}
 use borrow.Author.Needs.{needs}
+use Rattle.spec_kernel.specs.Sizes.{messageCount}
 use Rattle.spec_kernel.specs.Records.{noMessage}
 use Rattle.code_rules_records.proofs.Answers.{refused, passed}
 use Rattle.spec_notes.specs.Touched.{sameMessage}
@@ -12,15 +13,15 @@ use Rattle.code_notes_same.proofs.same_messages.Statement.{statement}
 use Rattle.code_notes_same.proofs.same_messages.Tie as tie
 
 abbrev Inv-loop : tie.InvT-loop
-Inv-loop a b i₀ i = Pairs sameMessage a b 64 i
+Inv-loop a b i₀ i = Pairs sameMessage a b messageCount i
 
 abbrev μ-loop : tie.MeasureT-loop
-μ-loop a b i₀ i = 64 - i
+μ-loop a b i₀ i = messageCount - i
 
 loop-holds : tie.Need-loop-holds Inv-loop μ-loop
 loop-holds c =
-    let e : length (c .args .t1) ≡ 64 = search needs in
-    let f : length (c .args .t2) ≡ 64 = search needs in
+    let e : length (c .args .t1) ≡ messageCount = search needs in
+    let f : length (c .args .t2) ≡ messageCount = search needs in
     pairs-start sameMessage (c .args .t1) (c .args .t2) e f
 
 mul-x : tie.Need-mul-x Inv-loop μ-loop

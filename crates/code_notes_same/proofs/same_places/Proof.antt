@@ -6,20 +6,21 @@ use lib.Dec.{eqb}
 use lib.ListN.{length}
 use borrow.Author.Needs.{needs}
 use borrow.Author.Tests.{eq-eqb, ne-eqb}
+use Rattle.base_queue.specs.Queues.{capacity}
 use Rattle.code_notes_same.proofs.Pairs.{Pairs, pairs-start, pairs-stop, pairs-go, pairs-end, row-all}
 use Rattle.code_notes_same.proofs.same_places.Statement.{statement}
 use Rattle.code_notes_same.proofs.same_places.Tie as tie
 
 abbrev Inv-loop : tie.InvT-loop
-Inv-loop a b i₀ i = Pairs eqb a b 64 i
+Inv-loop a b i₀ i = Pairs eqb a b capacity i
 
 abbrev μ-loop : tie.MeasureT-loop
-μ-loop a b i₀ i = 64 - i
+μ-loop a b i₀ i = capacity - i
 
 loop-holds : tie.Need-loop-holds Inv-loop μ-loop
 loop-holds c =
-    let e : length (c .args .t1) ≡ 64 = search needs in
-    let f : length (c .args .t2) ≡ 64 = search needs in
+    let e : length (c .args .t1) ≡ capacity = search needs in
+    let f : length (c .args .t2) ≡ capacity = search needs in
     pairs-start eqb (c .args .t1) (c .args .t2) e f
 
 array-read-if1 : tie.Need-array-read-if1 Inv-loop μ-loop

@@ -4,6 +4,7 @@ use mathlib.Core.Path.{_≡_}
 use native.Mathlib.Omega.{arith}
 use lib.ListN.{length}
 use borrow.Author.Needs.{needs}
+use Rattle.spec_kernel.specs.Sizes.{semaphoreCount}
 use Rattle.spec_kernel.specs.Records.{noSemaphore}
 use Rattle.code_rules_records.proofs.Answers.{refused, passed}
 use Rattle.spec_notes.specs.Touched.{sameSemaphore}
@@ -12,15 +13,15 @@ use Rattle.code_notes_same.proofs.same_semaphores.Statement.{statement}
 use Rattle.code_notes_same.proofs.same_semaphores.Tie as tie
 
 abbrev Inv-loop : tie.InvT-loop
-Inv-loop a b i₀ i = Pairs sameSemaphore a b 16 i
+Inv-loop a b i₀ i = Pairs sameSemaphore a b semaphoreCount i
 
 abbrev μ-loop : tie.MeasureT-loop
-μ-loop a b i₀ i = 16 - i
+μ-loop a b i₀ i = semaphoreCount - i
 
 loop-holds : tie.Need-loop-holds Inv-loop μ-loop
 loop-holds c =
-    let e : length (c .args .t1) ≡ 16 = search needs in
-    let f : length (c .args .t2) ≡ 16 = search needs in
+    let e : length (c .args .t1) ≡ semaphoreCount = search needs in
+    let f : length (c .args .t2) ≡ semaphoreCount = search needs in
     pairs-start sameSemaphore (c .args .t1) (c .args .t2) e f
 
 mul-x : tie.Need-mul-x Inv-loop μ-loop

@@ -4,6 +4,7 @@ use mathlib.Core.Path.{_≡_}
 use native.Mathlib.Omega.{arith}
 use lib.ListN.{length}
 use borrow.Author.Needs.{needs}
+use Rattle.spec_kernel.specs.Sizes.{threadCount}
 use Rattle.spec_kernel.specs.Records.{noThread}
 use Rattle.code_rules_records.proofs.Answers.{refused, passed}
 use Rattle.spec_notes.specs.Touched.{sameThread}
@@ -12,15 +13,15 @@ use Rattle.code_notes_same.proofs.same_threads.Statement.{statement}
 use Rattle.code_notes_same.proofs.same_threads.Tie as tie
 
 abbrev Inv-loop : tie.InvT-loop
-Inv-loop a b i₀ i = Pairs sameThread a b 32 i
+Inv-loop a b i₀ i = Pairs sameThread a b threadCount i
 
 abbrev μ-loop : tie.MeasureT-loop
-μ-loop a b i₀ i = 32 - i
+μ-loop a b i₀ i = threadCount - i
 
 loop-holds : tie.Need-loop-holds Inv-loop μ-loop
 loop-holds c =
-    let e : length (c .args .t1) ≡ 32 = search needs in
-    let f : length (c .args .t2) ≡ 32 = search needs in
+    let e : length (c .args .t1) ≡ threadCount = search needs in
+    let f : length (c .args .t2) ≡ threadCount = search needs in
     pairs-start sameThread (c .args .t1) (c .args .t2) e f
 
 mul-x : tie.Need-mul-x Inv-loop μ-loop

@@ -1,119 +1,150 @@
--- `code_refusals::bad_id` meets its contract: each kind that names an id stands in one run or has its own arm.
-use Prim.Native.Nat.{_≤_, _<_}
-use mathlib.Core.Path.{_≡_, refl, sym}
-use mathlib.Core.Bool.{false, not, or-false}
-use mathlib.Core.Logic.{⊎-elim}
-use native.Mathlib.Omega.{arith}
-use lib.Dec.{ltb}
-use borrow.Author.Tests.{ne-eqb}
-use Rattle.code_calls.specs.Named.{badIdOf}
-use Rattle.spec_calls.proofs.KindRuns.{asKind, run, off}
+-- `code_refusals::bad_id` meets its contract: class after class, each by its column of the row.
+use mathlib.Core.Path.{_≡_, sym, ap, _∙_}
+use mathlib.Core.Bool.{Bool, false, not, _&&_, or-false}
+use lib.Dec.{eqb, leb}
+use borrow.Author.Needs.{needs}
+use Rattle.spec_kernel.specs.Sizes.{eventCount, bitCount}
+use Rattle.spec_calls.specs.declared.kinds.Kind.{Kind}
+use Rattle.spec_calls.specs.Kinds.{theA, theBit, kindOf, names}
+use Rattle.spec_refusals.specs.Refusals.{badId}
 use Rattle.code_refusals.proofs.bad_id.Statement.{statement}
 use Rattle.code_refusals.proofs.bad_id.Tie as tie
 
+names-requires : tie.Need-names-requires
+names-requires c κs = search needs
+
+both-requires : tie.Need-both-requires
+both-requires c κs = search needs
+
+names-requires-2 : tie.Need-names-requires-2
+names-requires-2 c κs = search needs
+
+both-requires-2 : tie.Need-both-requires-2
+both-requires-2 c κs = search needs
+
+both-requires-3 : tie.Need-both-requires-3
+both-requires-3 c κs = search needs
+
+both-requires-4 : tie.Need-both-requires-4
+both-requires-4 c κs = search needs
+
+names-requires-3 : tie.Need-names-requires-3
+names-requires-3 c κs = search needs
+
+both-requires-5 : tie.Need-both-requires-5
+both-requires-5 c κs = search needs
+
+-- ---- the row of the kind, where so many tests failed
+abbrev row-1 : tie.Else1 → tie.Start
+row-1 c = c .before .before .before .before
+
+abbrev row-2 : tie.Else2 → tie.Start
+row-2 c = row-1 (c .before .before .before .before)
+
+abbrev row-3 : tie.Else3 → tie.Start
+row-3 c = row-2 (c .before .before .before .before)
+
+abbrev row-4 : tie.Else4 → tie.Start
+row-4 c = row-3 (c .before .before .before .before)
+
+-- ---- what each test judges by it
+of-thread : (c : tie.After-both)
+    → let a = c .before .before .before .args in c .both .result ≡ (names (kindOf (a .c) .thread) && not (a .n .thread))
+of-thread c =
+    let r = c .before .before .before in
+    let a = r .args in
+    c .both .ensures ∙ ap (λ (b : Bool). b && not (a .n .thread))
+    (c .before .before .names .ensures ∙ ap (λ (x : Kind). names (x .thread)) (r .pre))
+
+of-semaphore : (c : tie.After-both2)
+    → let a = row-1 (c .before .before .before) .args in
+    c .both2 .result ≡ (names (kindOf (a .c) .semaphore) && not (a .n .semaphore .live))
+of-semaphore c =
+    let r = row-1 (c .before .before .before) in
+    let a = r .args in
+    c .both2 .ensures ∙ ap (λ (b : Bool). b && not (a .n .semaphore .live))
+    (c .before .before .names2 .ensures ∙ ap (λ (x : Kind). names (x .semaphore)) (r .pre))
+
+of-event : (c : tie.After-both3)
+    → let a = row-2 (c .before .before .before) .args in
+    c .both3 .result ≡ (eqb (kindOf (a .c) .event) theA && leb eventCount (a .c .a))
+of-event c =
+    let r = row-2 (c .before .before .before) in
+    let a = r .args in
+    c .both3 .ensures ∙ ap (λ (x : Kind). eqb (x .event) theA && leb eventCount (a .c .a)) (r .pre)
+
+of-bit : (c : tie.After-both4)
+    → let a = row-3 (c .before .before .before) .args in
+    c .both4 .result ≡ (eqb (kindOf (a .c) .event) theBit && leb bitCount (a .c .a))
+of-bit c =
+    let r = row-3 (c .before .before .before) in
+    let a = r .args in
+    c .both4 .ensures ∙ ap (λ (x : Kind). eqb (x .event) theBit && leb bitCount (a .c .a)) (r .pre)
+
+of-message : (c : tie.After-both5)
+    → let a = row-4 (c .before .before .before) .args in
+    c .both5 .result ≡ (names (kindOf (a .c) .message) && not (a .n .message .live))
+of-message c =
+    let r = row-4 (c .before .before .before) in
+    let a = r .args in
+    c .both5 .ensures ∙ ap (λ (b : Bool). b && not (a .n .message .live))
+    (c .before .before .names3 .ensures ∙ ap (λ (x : Kind). names (x .message)) (r .pre))
+
+no-thread : (c : tie.Else1) → let a = row-1 c .args in (names (kindOf (a .c) .thread) && not (a .n .thread)) ≡ false
+no-thread c = sym (of-thread (c .before)) ∙ c .if1 .left
+
+no-semaphore : (c : tie.Else2) → let a = row-2 c .args in (names (kindOf (a .c) .semaphore) && not (a .n .semaphore .live)) ≡ false
+no-semaphore c = sym (of-semaphore (c .before)) ∙ c .if2 .left
+
+no-event : (c : tie.Else3) → let a = row-3 c .args in (eqb (kindOf (a .c) .event) theA && leb eventCount (a .c .a)) ≡ false
+no-event c = sym (of-event (c .before)) ∙ c .if3 .left
+
+no-bit : (c : tie.Else4) → let a = row-4 c .args in (eqb (kindOf (a .c) .event) theBit && leb bitCount (a .c .a)) ≡ false
+no-bit c = sym (of-bit (c .before)) ∙ c .if4 .left
+
 returns : tie.Need-returns
-unfolding badIdOf
-returns c = rw (c .before .before .match .keys3, c .if1 .taken)
+unfolding badId
+returns c = rw (sym (of-thread (c .before)) ∙ c .if1 .taken)
 
 returns-2 : tie.Need-returns-2
-unfolding badIdOf
-returns-2 c = rw (c .before .match .keys2) (sym (or-false _))
+unfolding badId
+returns-2 c = rw (no-thread (c .before .before .before .before), sym (of-semaphore (c .before)) ∙ c .if2 .taken)
 
 returns-3 : tie.Need-returns-3
-unfolding badIdOf
-returns-3 c = rw (c .before .before .before .match .keys3, c .before .if1 .left) (sym (or-false _))
+unfolding badId
+returns-3 c =
+    let s = c .before .before .before .before in
+    rw (no-thread (s .before .before .before .before), no-semaphore s, sym (of-event (c .before)) ∙ c .if3 .taken)
 
 returns-4 : tie.Need-returns-4
-unfolding badIdOf
+unfolding badId
 returns-4 c =
-    let a = c .before .before .before .before .args in
-    let z = sym (or-false (not (a .n .thread))) in
-    run (λ m. not (a .n .thread) ≡ badIdOf (a .n) (asKind (a .c) m)) 3 3 (z, (z, (z, tt))) (a .c .kind) (c .before .before .if2 .left)
-    (c .before .if3 .taken)
+    let e = c .before .before .before .before in
+    let s = e .before .before .before .before in
+    rw (no-thread (s .before .before .before .before), no-semaphore s, no-event e, sym (of-bit (c .before)) ∙ c .if4 .taken)
 
 returns-5 : tie.Need-returns-5
-unfolding badIdOf
+unfolding badId
 returns-5 c =
-    let a = c .before .before .before .before .before .before .before .args in
-    let z = sym (or-false (ltb 7 (a .c .a))) in
-    run (λ m. ltb 7 (a .c .a) ≡ badIdOf (a .n) (asKind (a .c) m)) 2 20 (z, (z, tt)) (a .c .kind) (c .before .before .if5 .left)
-    (c .before .if6 .taken)
-
-returns-6 : tie.Need-returns-6
-unfolding badIdOf
-returns-6 c =
-    let a = c .before .before .before .before .before .before .before .before .args in
-    let z = sym (or-false (ltb 31 (a .c .a))) in
-    let bit = run (λ m. ltb 31 (a .c .a) ≡ badIdOf (a .n) (asKind (a .c) m)) 2 in
-    ⊎-elim (λ w. bit 22 (z, (z, tt)) (a .c .kind) (c .before .before .if6 .left) (w .taken))
-    (λ w. bit 29 (z, (z, tt)) (a .c .kind) (omega arith) (w .2 .taken)) (c .before .if7 .came)
-
--- a kind that names no id
-none : (c : tie.At-match-rest) (t : 3 ≤ c .before .args .c .kind → c .before .args .c .kind < 6 → ⊥)
-    (s : 15 ≤ c .before .args .c .kind → c .before .args .c .kind < 24 → ⊥)
-    (b : 28 ≤ c .before .args .c .kind → c .before .args .c .kind < 31 → ⊥)
-    → false ≡ badIdOf (c .before .args .n) (c .before .args .c)
-unfolding badIdOf
-none c t s b =
-    let o = off (c .before .args .c .kind) 3 6 t in
-    let p = off (c .before .args .c .kind) 15 24 s in
-    let q = off (c .before .args .c .kind) 28 31 b in
-    rw (
-      o 3 refl refl,
-      o 4 refl refl,
-      o 5 refl refl,
-      ne-eqb _ 26 (c .match .rest .1),
-      p 15 refl refl,
-      p 16 refl refl,
-      p 17 refl refl,
-      p 18 refl refl,
-      p 19 refl refl,
-      q 28 refl refl,
-      p 20 refl refl,
-      p 21 refl refl,
-      p 22 refl refl,
-      p 23 refl refl,
-      q 29 refl refl,
-      q 30 refl refl,
-      ne-eqb _ 25 (c .match .rest .0 .1),
-    )
-
-returns-7 : tie.Need-returns-7
-returns-7 c = none (c .before) (λ x y. omega arith) (λ x y. omega arith) (λ x y. omega arith)
-
-returns-8 : tie.Need-returns-8
-returns-8 c = none (c .before .before .before) (λ x y. omega arith) (λ x y. omega arith) (λ x y. omega arith)
-
-returns-9 : tie.Need-returns-9
-returns-9 c =
-    none (c .before .before .before .before .before .before .before) (λ x y. omega arith) (λ x y. omega arith) (λ x y. omega arith)
-
-returns-10 : tie.Need-returns-10
-returns-10 c =
-    none (c .before .before .before .before .before .before .before .before) (λ x y. omega arith) (λ x y. omega arith) (λ x y. omega arith)
-
-returns-11 : tie.Need-returns-11
-unfolding badIdOf
-returns-11 c =
-    let a = c .before .before .args in
-    let z = sym (or-false (not (a .n .semaphore .live))) in
-    ⊎-elim (λ w. rw (w .keys1) (sym (or-false _)))
-    (λ w. run (λ m. not (a .n .semaphore .live) ≡ badIdOf (a .n) (asKind (a .c) m)) 5 15 (z, (z, (z, (z, (z, tt))))) (a .c .kind)
-    (w .3 .left) (w .4 .taken))
-    (c .before .match .came)
+    let b = c .before .before .before in
+    let e = b .before .before .before .before in
+    let s = e .before .before .before .before in
+    rw (no-thread (s .before .before .before .before), no-semaphore s, no-event e, no-bit b, of-message c) (sym (or-false _))
 
 pub bad-id-spec : {M : Type 1} → statement M
 bad-id-spec =
     tie.close
     (tie.spec
+    names-requires
+    both-requires
     returns
+    names-requires-2
+    both-requires-2
     returns-2
+    both-requires-3
     returns-3
+    both-requires-4
     returns-4
-    returns-5
-    returns-6
-    returns-7
-    returns-8
-    returns-9
-    returns-10
-    returns-11)
+    names-requires-3
+    both-requires-5
+    returns-5)

@@ -7,12 +7,12 @@ use native.Mathlib.Omega.{arith}
 use lib.Dec.{ltb}
 use borrow.Author.Needs.{needs}
 use borrow.Author.Tests.{lt-ltb}
-use Rattle.code_calls.specs.Named.{blocksOf}
+use Rattle.spec_refusals.specs.Refusals.{blocksInRegion}
 use Rattle.code_refusals.proofs.blocks_in_region.Statement.{statement}
 use Rattle.code_refusals.proofs.blocks_in_region.Tie as tie
 
 returns : tie.Need-returns
-unfolding blocksOf
+unfolding blocksInRegion
 returns c = rw (c .before .if1 .taken, c .if2 .taken)
 
 stops-caller-requires : tie.Need-stops-caller-requires
@@ -25,7 +25,7 @@ in-region c =
     lt-ltb _ _ h
 
 returns-2 : tie.Need-returns-2
-unfolding blocksOf
+unfolding blocksInRegion
 returns-2 c = rw (in-region (c .before), c .stops-caller .ensures)
 
 pub blocks-in-region-spec : {M : Type 1} → statement M

@@ -3,26 +3,26 @@ use mathlib.Core.Path.{sym}
 use mathlib.Core.Bool.{or-false}
 use mathlib.Core.Logic.{⊎-elim, inl, inr}
 use borrow.Author.Tests.{ne-eqb}
-use Rattle.code_calls.specs.Named.{noneFreeOf}
+use Rattle.spec_refusals.specs.Refusals.{noneFree}
 use Rattle.code_refusals.proofs.none_free.Statement.{statement}
 use Rattle.code_refusals.proofs.none_free.Tie as tie
 
 returns : tie.Need-returns
-unfolding noneFreeOf
+unfolding noneFree
 returns c =
     let z = sym (or-false _) in
     ⊎-elim (λ e. rw e z) (λ s. ⊎-elim (λ e. rw e z) (λ e. rw e z) s) (c .before .match .keys1)
 
 returns-2 : tie.Need-returns-2
-unfolding noneFreeOf
+unfolding noneFree
 returns-2 c = rw (c .match .keys2) (sym (or-false _))
 
 returns-3 : tie.Need-returns-3
-unfolding noneFreeOf
+unfolding noneFree
 returns-3 c = rw (c .match .keys3) (sym (or-false _))
 
 returns-4 : tie.Need-returns-4
-unfolding noneFreeOf
+unfolding noneFree
 returns-4 c =
     let r = c .match .rest in
     let f = r .0 .0 .1 in

@@ -4,38 +4,38 @@ use mathlib.Core.Path.{_≡_, refl, sym}
 use mathlib.Core.Bool.{true, false, or-false}
 use native.Mathlib.Omega.{arith}
 use borrow.Author.Tests.{ne-eqb}
-use Rattle.code_calls.specs.Named.{stopsCallerOf}
+use Rattle.spec_refusals.specs.Refusals.{stopsCaller}
 use Rattle.spec_calls.proofs.KindRuns.{asKind, run, off}
 use Rattle.code_refusals.proofs.stops_caller.Statement.{statement}
 use Rattle.code_refusals.proofs.stops_caller.Tie as tie
 
 returns : tie.Need-returns
-unfolding stopsCallerOf
+unfolding stopsCaller
 returns c = rw (c .before .match .keys1) (sym (or-false _))
 
 returns-2 : tie.Need-returns-2
-unfolding stopsCallerOf
+unfolding stopsCaller
 returns-2 c = rw (c .before .match .keys2) (sym (or-false _))
 
 returns-3 : tie.Need-returns-3
-unfolding stopsCallerOf
+unfolding stopsCaller
 returns-3 c = rw (c .before .match .keys3) (sym (or-false _))
 
 returns-4 : tie.Need-returns-4
-unfolding stopsCallerOf
+unfolding stopsCaller
 returns-4 c = rw (c .before .match .keys4) (sym (or-false _))
 
 returns-5 : tie.Need-returns-5
-unfolding stopsCallerOf
+unfolding stopsCaller
 returns-5 c =
     let a = c .before .before .before .args in
-    run (λ m. true ≡ stopsCallerOf (a .n) (a .runner) (asKind (a .c) m)) 2 6 (refl, (refl, tt)) (a .c .kind) (c .before .if1 .left)
+    run (λ m. true ≡ stopsCaller (a .runner) (a .n) (asKind (a .c) m)) 2 6 (refl, (refl, tt)) (a .c .kind) (c .before .if1 .left)
     (c .if2 .taken)
 
 -- a kind that never stops its caller
 none : (c : tie.At-match-rest) → (6 ≤ c .before .args .c .kind → c .before .args .c .kind < 8 → ⊥)
-    → false ≡ stopsCallerOf (c .before .args .n) (c .before .args .runner) (c .before .args .c)
-unfolding stopsCallerOf
+    → false ≡ stopsCaller (c .before .args .runner) (c .before .args .n) (c .before .args .c)
+unfolding stopsCaller
 none c h =
     let o = off (c .before .args .c .kind) 6 8 h in
     let r = c .match .rest in

@@ -4,6 +4,7 @@ use mathlib.Core.Path.{_≡_, refl, sym, _∙_}
 use native.Mathlib.Omega.{arith}
 use lib.ListN.{length, length-map}
 use borrow.Author.Needs.{needs}
+use Rattle.spec_kernel.specs.Sizes.{messageCount}
 use Rattle.spec_kernel.specs.Records.{noMessage}
 use Rattle.spec_rules.specs.Tests.{messagesKept, messageKept}
 use Rattle.code_rules.proofs.Loops.{Sweep, sweep-starts, sweep-stops, sweep-goes, sweep-ends}
@@ -11,17 +12,17 @@ use Rattle.code_rules.proofs.messages_kept.Statement.{statement}
 use Rattle.code_rules.proofs.messages_kept.Tie as tie
 
 abbrev Inv-loop : tie.InvT-loop
-Inv-loop k threads m₀ m = Sweep (messagesKept k) (λ _ r. messageKept (k .threads) r) (k .messages) 64 m
+Inv-loop k threads m₀ m = Sweep (messagesKept k) (λ _ r. messageKept (k .threads) r) (k .messages) messageCount m
 
 abbrev μ-loop : tie.MeasureT-loop
-μ-loop k threads m₀ m = 64 - m
+μ-loop k threads m₀ m = messageCount - m
 
 loop-holds : tie.Need-loop-holds Inv-loop μ-loop
 unfolding messagesKept
 loop-holds c =
     let s = c .before in
     let l = s .args .t1 .messages in
-    let e : length l ≡ 64 = sym (length-map l _) ∙ s .good .0 .1 .1 .1 .1 .1 .0 .1 .0 .1 in
+    let e : length l ≡ messageCount = sym (length-map l _) ∙ s .good .0 .1 .1 .1 .1 .1 .0 .1 .0 .1 in
     sweep-starts e refl
 
 mul-r : tie.Need-mul-r Inv-loop μ-loop

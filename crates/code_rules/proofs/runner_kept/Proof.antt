@@ -10,6 +10,7 @@ use lib.Dec.{eqb}
 use borrow.Author.Tests.{eq-eqb, ne-eqb}
 use borrow.Author.Needs.{needs}
 use Rattle.spec_kernel.specs.declared.records.Kernel.{Kernel}
+use Rattle.spec_kernel.specs.Sizes.{threadCount}
 use Rattle.spec_kernel.specs.Records.{noThread}
 use Rattle.spec_moves.proofs.Joins.{past-end}
 use Rattle.spec_rules.specs.Tests.{runnerKept}
@@ -37,7 +38,7 @@ returns-2 : tie.Need-returns-2
 unfolding runnerKept
 returns-2 c =
     let k : Kernel = c .before .before .args .t1 in
-    let e : length (k .threads) ≡ 32 = sym (length-map (k .threads) _) ∙ c .before .before .good .0 .1 .1 .0 .1 .0 .1 in
+    let e : length (k .threads) ≡ threadCount = sym (length-map (k .threads) _) ∙ c .before .before .good .0 .1 .1 .0 .1 .0 .1 in
     rw (held (c .before), past-end (k .threads) noThread e (c .if3 .taken))
 
 cast-i : tie.Need-cast-i

@@ -4,6 +4,7 @@ use mathlib.Core.Path.{_≡_, refl, sym, _∙_}
 use native.Mathlib.Omega.{arith}
 use lib.ListN.{length, length-map}
 use borrow.Author.Needs.{needs}
+use Rattle.spec_kernel.specs.Sizes.{semaphoreCount}
 use Rattle.spec_kernel.specs.Records.{noSemaphore}
 use Rattle.spec_rules.specs.Tests.{semaphoresKept, semaphoreKept}
 use Rattle.code_rules.proofs.Loops.{Sweep, sweep-starts, sweep-stops, sweep-goes, sweep-ends}
@@ -11,16 +12,16 @@ use Rattle.code_rules.proofs.semaphores_kept.Statement.{statement}
 use Rattle.code_rules.proofs.semaphores_kept.Tie as tie
 
 abbrev Inv-loop : tie.InvT-loop
-Inv-loop k i₀ i = Sweep (semaphoresKept k) (λ _ r. semaphoreKept r) (k .semaphores) 16 i
+Inv-loop k i₀ i = Sweep (semaphoresKept k) (λ _ r. semaphoreKept r) (k .semaphores) semaphoreCount i
 
 abbrev μ-loop : tie.MeasureT-loop
-μ-loop k i₀ i = 16 - i
+μ-loop k i₀ i = semaphoreCount - i
 
 loop-holds : tie.Need-loop-holds Inv-loop μ-loop
 unfolding semaphoresKept
 loop-holds c =
     let l = c .args .t1 .semaphores in
-    let e : length l ≡ 16 = sym (length-map l _) ∙ c .good .0 .1 .1 .1 .0 .1 .0 .1 in
+    let e : length l ≡ semaphoreCount = sym (length-map l _) ∙ c .good .0 .1 .1 .1 .0 .1 .0 .1 in
     sweep-starts e refl
 
 mul-r : tie.Need-mul-r Inv-loop μ-loop

@@ -4,6 +4,7 @@ use mathlib.Core.Path.{_≡_, refl, sym, _∙_}
 use native.Mathlib.Omega.{arith}
 use lib.ListN.{length, length-map}
 use borrow.Author.Needs.{needs}
+use Rattle.spec_kernel.specs.Sizes.{threadCount}
 use Rattle.spec_kernel.specs.Records.{noThread}
 use Rattle.spec_rules.specs.Tests.{threadsKept, threadKept}
 use Rattle.code_rules.proofs.Loops.{Sweep, sweep-starts, sweep-stops, sweep-goes, sweep-ends}
@@ -11,17 +12,18 @@ use Rattle.code_rules.proofs.threads_kept.Statement.{statement}
 use Rattle.code_rules.proofs.threads_kept.Tie as tie
 
 abbrev Inv-loop : tie.InvT-loop
-Inv-loop k semaphores events t₀ t = Sweep (threadsKept k) (λ _ r. threadKept (k .semaphores) (k .events) (k .bits) r) (k .threads) 32 t
+Inv-loop k semaphores events t₀ t =
+    Sweep (threadsKept k) (λ _ r. threadKept (k .semaphores) (k .events) (k .bits) r) (k .threads) threadCount t
 
 abbrev μ-loop : tie.MeasureT-loop
-μ-loop k semaphores events t₀ t = 32 - t
+μ-loop k semaphores events t₀ t = threadCount - t
 
 loop-holds : tie.Need-loop-holds Inv-loop μ-loop
 unfolding threadsKept
 loop-holds c =
     let s = c .before .before in
     let l = s .args .t1 .threads in
-    let e : length l ≡ 32 = sym (length-map l _) ∙ s .good .0 .1 .1 .0 .1 .0 .1 in
+    let e : length l ≡ threadCount = sym (length-map l _) ∙ s .good .0 .1 .1 .0 .1 .0 .1 in
     sweep-starts e refl
 
 mul-r : tie.Need-mul-r Inv-loop μ-loop

@@ -1,4 +1,4 @@
--- `code_rules_records::event_waited` meets its contract: below 8 the event decides.
+-- `code_rules_records::event_waited` meets its contract: where there is such an event it decides.
 use borrow.Author.Tests.{lt-ltb, le-ltb}
 use borrow.Author.Needs.{needs}
 use Rattle.code_rules_records.proofs.event_waited.Statement.{statement}

@@ -5,6 +5,7 @@ use mathlib.Core.Bool.{true, and-true}
 use lib.ListN.{length, getD}
 use borrow.Author.Tests.{lt-ltb, le-ltb, le-leb, lt-leb, not-true, not-false}
 use borrow.Author.Needs.{needs}
+use Rattle.spec_kernel.specs.Sizes.{threadCount}
 use Rattle.spec_kernel.specs.Records.{noThread}
 use Rattle.spec_moves.proofs.Joins.{past-end}
 use Rattle.spec_rules.specs.Tests.{liveMessageKept}
@@ -19,7 +20,7 @@ returns : tie.Need-returns
 unfolding liveMessageKept
 returns c =
     let a = c .before .before .args in
-    let e : length (a .t1) ≡ 32 = search needs in
+    let e : length (a .t1) ≡ threadCount = search needs in
     rw (past-end (a .t1) noThread e (c .if1 .taken))
 
 cast-i : tie.Need-cast-i

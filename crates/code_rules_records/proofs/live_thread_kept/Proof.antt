@@ -1,5 +1,5 @@
 -- `code_rules_records::live_thread_kept` meets its contract: the first test that fails answers. Where the arms of the reply meet, it is
--- below 64 or 255.
+-- a message's id or 255.
 use Prim.Native.Nat.{ℕ, _≤_, _<_}
 use mathlib.Core.Path.{_≡_}
 use mathlib.Core.Bool.{Bool, true, false, _&&_, _||_, or-true}
@@ -10,6 +10,7 @@ use lib.Dec.{eqb, ltb, leb}
 use borrow.Author.Tests.{eq-eqb, ne-eqb, lt-ltb, le-ltb, le-leb, lt-leb, ltb-true}
 use borrow.Table.Steps.{cases}
 use borrow.Author.Needs.{needs}
+use Rattle.spec_kernel.specs.Sizes.{messageCount, priorityCount}
 use Rattle.spec_kernel.specs.declared.records.Thread.{Thread}
 use Rattle.spec_kernel.specs.declared.records.Semaphore.{Semaphore}
 use Rattle.spec_kernel.specs.declared.records.Event.{Event}
@@ -18,36 +19,37 @@ use Rattle.code_rules_records.proofs.Runs.{stops, goes, ends}
 use Rattle.code_rules_records.proofs.live_thread_kept.Statement.{statement}
 use Rattle.code_rules_records.proofs.live_thread_kept.Tie as tie
 
--- a priority is from 1 to 30: its two tests, and what the rest says
-in-range : (p : ℕ) {b rest : Bool} → (0 < p) × (p ≤ 30) → b ≡ rest → b ≡ (ltb 0 p && (leb p 30 && rest))
-in-range p h e = goes (lt-ltb 0 p (h .0)) (goes (le-leb p 30 (h .1)) e)
+-- a priority is within its bounds: its two tests, and what the rest says
+in-range : (p : ℕ) {b rest : Bool} → (0 < p) × (p ≤ priorityCount) → b ≡ rest → b ≡ (ltb 0 p && (leb p priorityCount && rest))
+in-range p h e = goes (lt-ltb 0 p (h .0)) (goes (le-leb p priorityCount (h .1)) e)
 
-out-of-range : (p : ℕ) (rest : Bool) → (0 < p → 30 < p) → false ≡ (ltb 0 p && (leb p 30 && rest))
+out-of-range : (p : ℕ) (rest : Bool) → (0 < p → priorityCount < p) → false ≡ (ltb 0 p && (leb p priorityCount && rest))
 out-of-range p rest h =
-    cases (ltb 0 p) (λ e. goes e (stops _ (lt-leb p 30 (h (ltb-true 0 p e))))) (λ e. stops _ e)
+    cases (ltb 0 p) (λ e. goes e (stops _ (lt-leb p priorityCount (h (ltb-true 0 p e))))) (λ e. stops _ e)
 
 module _ (semaphores : List Semaphore) (events : List Event) (bits : ℕ) (r : Thread) where
   abbrev kept : Bool
   kept = liveThreadKept semaphores events bits r
 
-  priority-out : (0 < r .priority → 30 < r .priority) → false ≡ kept
+  priority-out : (0 < r .priority → priorityCount < r .priority) → false ≡ kept
   unfolding liveThreadKept
   priority-out h = out-of-range (r .priority) _ h
 
-  module _ (p : (0 < r .priority) × (r .priority ≤ 30)) where
-    first-out : (0 < r .first → 30 < r .first) → false ≡ kept
+  module _ (p : (0 < r .priority) × (r .priority ≤ priorityCount)) where
+    first-out : (0 < r .first → priorityCount < r .first) → false ≡ kept
     unfolding liveThreadKept
     first-out h = in-range (r .priority) p (out-of-range (r .first) _ h)
 
-    module _ (f : (0 < r .first) × (r .first ≤ 30)) where
-      reply-out : 64 ≤ r .reply → (r .reply ≡ 255 → ⊥) → false ≡ kept
+    module _ (f : (0 < r .first) × (r .first ≤ priorityCount)) where
+      reply-out : messageCount ≤ r .reply → (r .reply ≡ 255 → ⊥) → false ≡ kept
       unfolding liveThreadKept
       reply-out h n =
-          let e : (ltb (r .reply) 64 || eqb (r .reply) 255) ≡ false = rw (le-ltb (r .reply) 64 h) (ne-eqb (r .reply) 255 n) in
+          let e : (ltb (r .reply) messageCount || eqb (r .reply) 255) ≡ false =
+          rw (le-ltb (r .reply) messageCount h) (ne-eqb (r .reply) 255 n) in
           in-range (r .priority) p (in-range (r .first) f (stops _ e))
 
       -- the condition decides
-      rest : {b : Bool} → (ltb (r .reply) 64 || eqb (r .reply) 255) ≡ true
+      rest : {b : Bool} → (ltb (r .reply) messageCount || eqb (r .reply) 255) ≡ true
           → b ≡ conditionKept semaphores events bits (r .ticks) (r .condition) → b ≡ kept
       unfolding liveThreadKept
       rest h e = in-range (r .priority) p (in-range (r .first) f (goes h (ends e)))

@@ -3,6 +3,7 @@ use mathlib.Core.Path.{_≡_}
 use lib.ListN.{getD, length}
 use borrow.Author.Tests.{not-true, not-false}
 use borrow.Author.Needs.{needs}
+use Rattle.spec_kernel.specs.Sizes.{semaphoreCount}
 use Rattle.spec_kernel.specs.Records.{noSemaphore}
 use Rattle.spec_moves.proofs.Joins.{past-end}
 use Rattle.code_rules_records.proofs.semaphore_waited.Statement.{statement}
@@ -11,7 +12,7 @@ use Rattle.code_rules_records.proofs.semaphore_waited.Tie as tie
 returns : tie.Need-returns
 returns c =
     let a = c .before .args in
-    let e : length (a .t1) ≡ 16 = search needs in
+    let e : length (a .t1) ≡ semaphoreCount = search needs in
     rw (past-end (a .t1) noSemaphore e (c .if1 .taken))
 
 mul-s : tie.Need-mul-s

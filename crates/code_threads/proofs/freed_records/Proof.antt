@@ -5,6 +5,7 @@ use mathlib.Core.List.{map, _++_}
 use native.Mathlib.Omega.{arith}
 use lib.ListN.{length, take, drop, length-set}
 use borrow.Author.Needs.{needs}
+use Rattle.spec_kernel.specs.Sizes.{messageCount}
 use Rattle.spec_kernel.specs.Records.{noMessage}
 use Rattle.spec_threads.specs.Threads.{freedFrom}
 use Rattle.base_queue.proofs.Maps.{map-next, map-end}
@@ -13,10 +14,11 @@ use Rattle.code_threads.proofs.freed_records.Tie as tie
 
 abbrev Inv-loop : tie.InvT-loop
 Inv-loop t messages next₀ m₀ next m =
-    (m ≤ 64) × (length messages ≡ 64) × (length next ≡ 64) × (next ≡ take m (map (freedFrom t) messages) ++ drop m messages)
+    (m ≤ messageCount) × (length messages ≡ messageCount) × (length next ≡ messageCount)
+    × (next ≡ take m (map (freedFrom t) messages) ++ drop m messages)
 
 abbrev μ-loop : tie.MeasureT-loop
-μ-loop t messages next₀ m₀ next m = 64 - m
+μ-loop t messages next₀ m₀ next m = messageCount - m
 
 loop-holds : tie.Need-loop-holds Inv-loop μ-loop
 loop-holds c = (omega arith, search needs, search needs, refl)

@@ -5,6 +5,7 @@ use mathlib.Core.List.{map, _++_}
 use native.Mathlib.Omega.{arith}
 use lib.ListN.{length, take, drop, length-set}
 use borrow.Author.Needs.{needs}
+use Rattle.spec_kernel.specs.Sizes.{threadCount}
 use Rattle.spec_kernel.specs.Records.{noThread}
 use Rattle.base_queue.proofs.Maps.{map-next, map-end}
 use Rattle.spec_time.specs.Time.{aged}
@@ -13,10 +14,10 @@ use Rattle.code_time.proofs.aged_records.Tie as tie
 
 abbrev Inv-loop : tie.InvT-loop
 Inv-loop threads next₀ t₀ next t =
-    (t ≤ 32) × (length threads ≡ 32) × (length next ≡ 32) × (next ≡ take t (map aged threads) ++ drop t threads)
+    (t ≤ threadCount) × (length threads ≡ threadCount) × (length next ≡ threadCount) × (next ≡ take t (map aged threads) ++ drop t threads)
 
 abbrev μ-loop : tie.MeasureT-loop
-μ-loop threads next₀ t₀ next t = 32 - t
+μ-loop threads next₀ t₀ next t = threadCount - t
 
 loop-holds : tie.Need-loop-holds Inv-loop μ-loop
 loop-holds c = (omega arith, search needs, search needs, refl)

@@ -10,7 +10,9 @@ use lib.Dec.{eqb}
 use lib.ListN.{length, length-map, getD}
 use borrow.Author.Tests.{eq-eqb, ne-eqb}
 use borrow.Author.Needs.{needs}
+use Rattle.base_queue.specs.Queues.{capacity}
 use Rattle.spec_kernel.specs.declared.records.Thread.{Thread}
+use Rattle.spec_kernel.specs.Sizes.{threadCount}
 use Rattle.spec_kernel.specs.Records.{noThread}
 use Rattle.spec_moves.proofs.Joins.{past-end}
 use Rattle.code_threads.proofs.Walks.{Walked, walk-starts, walk-does, walk-skips, walk-ends}
@@ -34,7 +36,7 @@ meets : (c : tie.Joined1 Inv-loop μ-loop)
 meets c =
     let s = c .before .before .before .before .before .before .before in
     let l = s .args .p .records in
-    let e : length l ≡ 32 = sym (length-map l _) ∙ s .good .0 .1 .1 .0 .1 .0 .1 in
+    let e : length l ≡ threadCount = sym (length-map l _) ∙ s .good .0 .1 .1 .0 .1 .0 .1 in
     ⊎-elim (λ w. w .1) (λ w. w .1 ∙ sym (ap (λ (r : Thread). r .ticks) (past-end l noThread e (w .0 .left)))) (c .if1 .came)
 
 size-requires : tie.Need-size-requires Inv-loop μ-loop
@@ -43,7 +45,7 @@ size-requires c κs = search needs
 loop-holds : tie.Need-loop-holds Inv-loop μ-loop
 loop-holds c =
     let p = c .before .before .before .before .args .p in
-    let e : length (p .time .at) ≡ 64 = search needs in
+    let e : length (p .time .at) ≡ capacity = search needs in
     walk-starts timeUp (isDue (p .records)) p (p .time) _ (c .size .ensures) e
 
 array-read-t : tie.Need-array-read-t Inv-loop μ-loop

@@ -4,6 +4,7 @@ use mathlib.Core.Path.{_≡_, refl, sym, ap, _∙_}
 use native.Mathlib.Omega.{arith}
 use lib.ListN.{length, length-map}
 use borrow.Author.Needs.{needs}
+use Rattle.spec_kernel.specs.Sizes.{semaphoreCount}
 use Rattle.code_semaphores.specs.Waiting.{withWaiting, Does}
 use Rattle.code_time.proofs.PulseTurns.{pulse-more, pulse-skips}
 use Rattle.spec_time.specs.Time.{pulseFrom}
@@ -11,10 +12,10 @@ use Rattle.code_time.proofs.pulses.Statement.{statement}
 use Rattle.code_time.proofs.pulses.Tie as tie
 
 abbrev Inv-loop : tie.InvT-loop
-Inv-loop next₀ i₀ next i = (i ≤ 16) × (length (next .semaphores) ≡ 16) × Does (pulseFrom 0 i) next₀ next
+Inv-loop next₀ i₀ next i = (i ≤ semaphoreCount) × (length (next .semaphores) ≡ semaphoreCount) × Does (pulseFrom 0 i) next₀ next
 
 abbrev μ-loop : tie.MeasureT-loop
-μ-loop next₀ i₀ next i = 16 - i
+μ-loop next₀ i₀ next i = semaphoreCount - i
 
 loop-holds : tie.Need-loop-holds Inv-loop μ-loop
 unfolding pulseFrom

@@ -1,6 +1,7 @@
 -- `code_time::tick` meets its contract: time passes, the periodic semaphores come after it, and the uptime changes nothing in either.
 use mathlib.Core.Path.{ap, _∙_}
 use borrow.Author.Needs.{needs}
+use Rattle.spec_kernel.specs.Sizes.{semaphoreCount}
 use Rattle.spec_moves.specs.declared.parts.Threads.{Threads}
 use Rattle.spec_moves.specs.States.{withThreads, withUptime}
 use Rattle.spec_time.specs.Time.{later, timePasses, pulseFrom, tick}
@@ -29,7 +30,7 @@ returns c =
     let after = withUptime (later (k .uptime)) k in
     rw (c .later .ensures, c .before .with-waiting .ensures)
     (c .before .before .pulses .ensures after
-    ∙ ap (λ (p : Threads). pulseFrom 0 16 (withThreads p after))
+    ∙ ap (λ (p : Threads). pulseFrom 0 semaphoreCount (withThreads p after))
     (c .before .before .before .time-passes .ensures ∙ ap timePasses (c .before .before .before .before .threads-of .ensures)))
 
 pub tick-spec : {M : Type 1} → statement M

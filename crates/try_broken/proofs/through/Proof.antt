@@ -1,5 +1,6 @@
 use Prim.Native.Nat.{_≤_, _-_}
 use borrow.Author.Needs.{needs}
+use Rattle.base_queue.specs.Queues.{capacity}
 use Rattle.try_broken.proofs.through.Statement.{statement}
 use Rattle.try_broken.proofs.through.Tie as tie
 
@@ -7,7 +8,7 @@ abbrev Inv-loop : tie.InvT-loop
 Inv-loop n next₀ i₀ next i = 0 ≤ i
 
 abbrev μ-loop : tie.MeasureT-loop
-μ-loop n next₀ i₀ next i = 64 - i
+μ-loop n next₀ i₀ next i = capacity - i
 
 size-requires : tie.Need-size-requires Inv-loop μ-loop
 size-requires c κs = search needs

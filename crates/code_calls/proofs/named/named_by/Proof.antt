@@ -1,29 +1,50 @@
--- `code_calls::named::named_by` meets its contract: each kind that names a record stands in one run or has its own arm.
-use Prim.Native.Nat.{_≤_, _<_}
-use mathlib.Core.Path.{_≡_, refl}
+-- `code_calls::named::named_by` meets its contract: a class after the other, each by its column of the row.
+use mathlib.Core.Path.{_≡_, sym, ap, _∙_}
 use mathlib.Core.Bool.{Bool, false}
 use mathlib.Core.Logic.{⊎-elim}
-use native.Mathlib.Omega.{arith}
 use borrow.Author.Needs.{needs}
 use borrow.Author.Tests.{ne-eqb}
 use Rattle.spec_kernel.specs.declared.records.Semaphore.{Semaphore}
+use Rattle.spec_kernel.specs.declared.records.Message.{Message}
 use Rattle.spec_kernel.specs.declared.records.Kernel.{Kernel}
-use Rattle.spec_kernel.specs.Records.{thread, semaphore, noSemaphore, noMessage}
+use Rattle.spec_kernel.specs.Records.{noSemaphore, noMessage}
 use Rattle.spec_calls.specs.declared.call.Call.{Call}
-use Rattle.code_calls.specs.declared.named.Named.{Named}
-use Rattle.code_calls.specs.Named.{waiterBy, foundBy, namedBy, nobody}
-use Rattle.spec_calls.proofs.KindRuns.{asKind, run, off}
+use Rattle.spec_calls.specs.declared.kinds.Kind.{Kind}
+use Rattle.spec_calls.specs.Kinds.{kindOf, names, idNamed}
+use Rattle.spec_refusals.specs.declared.named.Named.{Named}
+use Rattle.spec_refusals.specs.Named.{waiterBy, valueOf, named}
 use Rattle.code_calls.proofs.named.named_by.Statement.{statement}
 use Rattle.code_calls.proofs.named.named_by.Tie as tie
+
+no-semaphore-requires : tie.Need-no-semaphore-requires
+no-semaphore-requires c κs = search needs
+
+no-message-requires : tie.Need-no-message-requires
+no-message-requires c κs = search needs
 
 waiter-by-requires : tie.Need-waiter-by-requires
 waiter-by-requires c κs = search needs
 
-found-by-requires : tie.Need-found-by-requires
-found-by-requires c κs = search needs
+value-of-requires : tie.Need-value-of-requires
+value-of-requires c κs = search needs
 
-nothing-requires : tie.Need-nothing-requires
-nothing-requires c κs = search needs
+kind-of-requires : tie.Need-kind-of-requires
+kind-of-requires c κs = search needs
+
+names-requires : tie.Need-names-requires
+names-requires c κs = search needs
+
+id-named-requires : tie.Need-id-named-requires
+id-named-requires c κs = search needs
+
+thread-at-requires : tie.Need-thread-at-requires
+thread-at-requires c κs = search needs
+
+names-requires-2 : tie.Need-names-requires-2
+names-requires-2 c κs = search needs
+
+semaphore-at-requires : tie.Need-semaphore-at-requires
+semaphore-at-requires c κs = search needs
 
 event-at-requires : tie.Need-event-at-requires
 event-at-requires c κs = search needs
@@ -31,134 +52,113 @@ event-at-requires c κs = search needs
 is-true-requires : tie.Need-is-true-requires
 is-true-requires c κs = search needs
 
+names-requires-3 : tie.Need-names-requires-3
+names-requires-3 c κs = search needs
+
 message-at-requires : tie.Need-message-at-requires
 message-at-requires c κs = search needs
 
-thread-at-requires : tie.Need-thread-at-requires
-thread-at-requires c κs = search needs
+-- what stands there after a class: these, who waits and what is found
+abbrev stage : Kernel → Call → Bool → Semaphore → Bool → Message → Named
+stage k x t s e m =
+    record { thread = t; semaphore = s; truth = e; message = m; waiter = waiterBy k x; found = valueOf k x }
 
-message-at-requires-2 : tie.Need-message-at-requires-2
-message-at-requires-2 c κs = search needs
+-- ---- the columns of the row
+of-thread : (c : tie.After-names) → c .names .result ≡ names (kindOf (c .before .before .before .before .before .before .args .c) .thread)
+of-thread c = c .names .ensures ∙ ap (λ (x : Kind). names (x .thread)) (c .before .kind-of .ensures)
 
-cast-thread-at : tie.Need-cast-thread-at
-cast-thread-at c = search needs
+of-semaphore : (c : tie.After-names2)
+    → c .names2 .result ≡ names (kindOf (c .before .before .before .before .before .before .before .before .args .c) .semaphore)
+of-semaphore c = c .names2 .ensures ∙ ap (λ (x : Kind). names (x .semaphore)) (c .before .before .before .kind-of .ensures)
 
-thread-at-requires-2 : tie.Need-thread-at-requires-2
-thread-at-requires-2 c κs = search needs
+-- ---- class after class
+after-threads : (c : tie.Joined1)
+    → let a = c .before .before .before .before .before .before .before .args in
+    c .if1 .n ≡ stage (a .k) (a .c) (named (a .k) (a .c) .thread) noSemaphore false noMessage
+unfolding named
+after-threads c =
+    let r = c .before .before in
+    let n = of-thread (c .before) in
+    let v = r .before in
+    let w = v .before in
+    let m = w .before in
+    ⊎-elim
+    (λ t. rw (
+      t .4,
+      v .value-of .ensures,
+      w .waiter-by .ensures,
+      m .no-message .ensures,
+      m .before .no-semaphore .ensures,
+      sym n ∙ t .0 .taken,
+      t .3 .ensures,
+      t .2 .ensures ∙ ap (λ (x : Kind). idNamed (x .thread) (r .before .before .before .before .before .args .c)) (r .kind-of .ensures),
+    ))
+    (λ t. rw (
+      sym n ∙ t .0 .left,
+      t .1,
+      v .value-of .ensures,
+      w .waiter-by .ensures,
+      m .no-message .ensures,
+      m .before .no-semaphore .ensures,
+    ))
+    (c .if1 .came)
 
-semaphore-at-requires : tie.Need-semaphore-at-requires
-semaphore-at-requires c κs = search needs
+after-semaphores : (c : tie.Joined2)
+    → let a = c .before .before .before .before .before .before .before .before .before .args in
+    let z = named (a .k) (a .c) in
+    c .if2 .n ≡ stage (a .k) (a .c) (z .thread) (z .semaphore) false noMessage
+unfolding named
+after-semaphores c =
+    let n = of-semaphore (c .before) in
+    let e = after-threads (c .before .before) in
+    ⊎-elim (λ t. rw (sym n ∙ t .0 .taken, t .3, e, t .2 .ensures)) (λ t. rw (sym n ∙ t .0 .left, t .1, e)) (c .if2 .came)
 
--- the code starts with no record
-starts : (c : tie.After-nothing) → let a = c .before .before .before .args in
-    c .nothing .result ≡ nobody (waiterBy (a .k) (a .c)) (foundBy (a .k) (a .c))
-starts c = rw (c .nothing .ensures, c .before .found-by .ensures, c .before .before .waiter-by .ensures)
+after-events : (c : tie.Joined3)
+    → let a = c .before .before .before .before .before .before .before .before .before .before .before .args in
+    let z = named (a .k) (a .c) in
+    c .if3 .n ≡ stage (a .k) (a .c) (z .thread) (z .semaphore) (z .truth) noMessage
+unfolding named
+after-events c =
+    let r = c .before .before .before .before .before .before in
+    let n = ap (λ (x : Kind). x .event) (r .kind-of .ensures) in
+    let e = after-semaphores (c .before .before) in
+    ⊎-elim (λ t. rw (sym n ∙ t .0 .taken, t .4, e, t .3 .ensures, t .2 .ensures))
+    (λ t. rw (ne-eqb _ 1 (λ z. t .0 .left (n ∙ z)), t .1, e)) (c .if3 .came)
+
+of-message : (c : tie.After-names3)
+    → c .names3 .result
+    ≡ names (kindOf (c .before .before .before .before .before .before .before .before .before .before .before .before .args .c) .message)
+of-message c =
+    let r = c .before .before .before .before .before .before .before in
+    c .names3 .ensures ∙ ap (λ (x : Kind). names (x .message)) (r .kind-of .ensures)
 
 returns : tie.Need-returns
-unfolding namedBy
+unfolding named
 returns c =
-    rw (
-      starts (c .before .before .before .before),
-      c .before .before .before .match .keys2,
-      c .is-true .ensures,
-      c .before .event-at .ensures,
-    )
+    let t = c .before .before in
+    rw (sym (of-message (t .before)) ∙ t .if4 .taken, after-events (t .before .before), c .message-at .ensures)
 
 returns-2 : tie.Need-returns-2
-unfolding namedBy
-returns-2 c =
-    rw (starts (c .before .before .before), c .before .before .match .keys3, c .message-at .ensures)
-
-returns-3 : tie.Need-returns-3
-unfolding namedBy
-returns-3 c =
-    rw (
-      starts (c .before .before .before .before .before),
-      c .before .before .before .before .match .keys4,
-      c .message-at2 .ensures,
-      c .before .thread-at .ensures,
-    )
-
--- a thread or a semaphore, and no other record
-abbrev only : Bool → Semaphore → Kernel → Call → Named
-only t s k c =
-    record { thread = t; other = false; semaphore = s; truth = false; message = noMessage; waiter = waiterBy k c; found = foundBy k c }
-
-returns-4 : tie.Need-returns-4
-unfolding namedBy
-returns-4 c =
-    let a = c .before .before .before .before .before .before .before .before .before .args in
-    rw (starts (c .before .before .before .before .before .before), c .thread-at2 .ensures)
-    (run (λ m. only (thread (a .k) (a .c .a) .live) noSemaphore (a .k) (asKind (a .c) m) ≡ namedBy (a .k) (asKind (a .c) m)) 3 3
-    (refl, (refl, (refl, tt))) (a .c .kind)
-    (c .before .before .before .before .if1 .left) (c .before .before .before .if2 .taken))
-
--- a kind that names no record
-none : (c : tie.At-match-rest)
-    (t : 3 ≤ c .before .before .before .before .args .c .kind → c .before .before .before .before .args .c .kind < 6 → ⊥)
-    (s : 15 ≤ c .before .before .before .before .args .c .kind → c .before .before .before .before .args .c .kind < 20 → ⊥)
-    → c .before .nothing .result ≡ namedBy (c .before .before .before .before .args .k) (c .before .before .before .before .args .c)
-unfolding namedBy
-none c t s =
-    let o = off (c .before .before .before .before .args .c .kind) 3 6 t in
-    let p = off (c .before .before .before .before .args .c .kind) 15 20 s in
-    let r = c .match .rest in
-    rw (
-      starts (c .before),
-      o 3 refl refl,
-      o 4 refl refl,
-      o 5 refl refl,
-      ne-eqb _ 26 (r .1),
-      p 15 refl refl,
-      p 16 refl refl,
-      p 17 refl refl,
-      p 18 refl refl,
-      p 19 refl refl,
-      ne-eqb _ 28 (r .0 .0 .0 .1),
-      ne-eqb _ 21 (r .0 .0 .1),
-      ne-eqb _ 25 (r .0 .1),
-    )
-
-returns-5 : tie.Need-returns-5
-returns-5 c = none (c .before) (λ x y. omega arith) (λ x y. omega arith)
-
-returns-6 : tie.Need-returns-6
-returns-6 c = none (c .before .before .before) (λ x y. omega arith) (λ x y. omega arith)
-
-returns-7 : tie.Need-returns-7
-returns-7 c = none (c .before .before .before .before) (λ x y. omega arith) (λ x y. omega arith)
-
-returns-8 : tie.Need-returns-8
-unfolding namedBy
-returns-8 c =
-    let a = c .before .before .before .before .before .before .args in
-    rw (starts (c .before .before .before), c .semaphore-at .ensures)
-    (⊎-elim (λ w. rw (w .keys1))
-    (λ w. run (λ m. only false (semaphore (a .k) (a .c .a)) (a .k) (asKind (a .c) m) ≡ namedBy (a .k) (asKind (a .c) m)) 5 15
-    (refl, (refl, (refl, (refl, (refl, tt))))) (a .c .kind)
-    (w .3 .left) (w .4 .taken))
-    (c .before .before .match .came))
+unfolding named
+returns-2 c = rw (sym (of-message (c .before)) ∙ c .if4 .left, after-events (c .before .before))
 
 pub named-by-spec : {M : Type 1} → statement M
 named-by-spec =
     tie.close
     (tie.spec
+    no-semaphore-requires
+    no-message-requires
     waiter-by-requires
-    found-by-requires
-    nothing-requires
+    value-of-requires
+    kind-of-requires
+    names-requires
+    id-named-requires
+    thread-at-requires
+    names-requires-2
+    semaphore-at-requires
     event-at-requires
     is-true-requires
+    names-requires-3
     message-at-requires
-    thread-at-requires
-    message-at-requires-2
-    cast-thread-at
-    thread-at-requires-2
-    semaphore-at-requires
     returns
-    returns-2
-    returns-3
-    returns-4
-    returns-5
-    returns-6
-    returns-7
-    returns-8)
+    returns-2)

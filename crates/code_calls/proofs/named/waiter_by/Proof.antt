@@ -1,10 +1,16 @@
--- `code_calls::named::waiter_by` meets its contract: three kinds ask for the first that waits.
-use mathlib.Core.Logic.{⊎-elim, inl, inr}
+-- `code_calls::named::waiter_by` meets its contract: the row says whether the first that waits is asked for.
+use mathlib.Core.Path.{_≡_, sym, ap, _∙_}
 use borrow.Author.Needs.{needs}
 use borrow.Author.Tests.{ne-eqb}
-use Rattle.code_calls.specs.Named.{waiterBy}
+use Rattle.code_kernel_find.specs.AtHome.{firstAtHome}
+use Rattle.spec_calls.specs.declared.kinds.Kind.{Kind}
+use Rattle.spec_calls.specs.Kinds.{kindOf}
+use Rattle.spec_refusals.specs.Named.{waiterBy}
 use Rattle.code_calls.proofs.named.waiter_by.Statement.{statement}
 use Rattle.code_calls.proofs.named.waiter_by.Tie as tie
+
+kind-of-requires : tie.Need-kind-of-requires
+kind-of-requires c κs = search needs
 
 cast-first-at-home : tie.Need-cast-first-at-home
 cast-first-at-home c = search needs
@@ -15,19 +21,20 @@ add-first-at-home c = search needs
 first-at-home-requires : tie.Need-first-at-home-requires
 first-at-home-requires c κs = search needs
 
+of-thread : (c : tie.After-kind-of) → c .kind-of .result .thread ≡ kindOf (c .before .args .c) .thread
+of-thread c = ap (λ (x : Kind). x .thread) (c .kind-of .ensures)
+
 returns : tie.Need-returns
-unfolding waiterBy
+unfolding waiterBy firstAtHome
 returns c =
-    rw (c .first-at-home .ensures)
-    (⊎-elim (λ e. rw e) (λ s. ⊎-elim (λ e. rw e) (λ e. rw e) s) (c .before .before .before .before .match .keys1))
+    let t = c .before .before .before .before in
+    rw (sym (of-thread (t .before .before)) ∙ t .if1 .taken) (c .first-at-home .ensures)
 
 returns-2 : tie.Need-returns-2
 unfolding waiterBy
-returns-2 c =
-    let r = c .match .rest .1 in
-    rw (ne-eqb _ 15 (λ e. r (inl e)), ne-eqb _ 19 (λ e. r (inr (inl e))), ne-eqb _ 28 (λ e. r (inr (inr e))))
+returns-2 c = rw (ne-eqb _ 4 (λ z. c .if1 .left (of-thread (c .before .before) ∙ z)))
 
 pub waiter-by-spec : {M : Type 1} → statement M
 waiter-by-spec =
     tie.close
-    (tie.spec cast-first-at-home add-first-at-home first-at-home-requires returns returns-2)
+    (tie.spec kind-of-requires cast-first-at-home add-first-at-home first-at-home-requires returns returns-2)

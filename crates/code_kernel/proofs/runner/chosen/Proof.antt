@@ -6,6 +6,7 @@ use lib.ListN.{length, length-map}
 use borrow.Author.Needs.{needs}
 use borrow.Author.Tests.{lt-ltb, le-ltb}
 use Rattle.spec_kernel.specs.declared.records.Kernel.{Kernel}
+use Rattle.spec_kernel.specs.Sizes.{threadCount}
 use Rattle.spec_kernel.specs.Records.{noThread, thread}
 use Rattle.spec_kernel.specs.Places.{homeOf}
 use Rattle.spec_moves.proofs.Joins.{past-end}
@@ -20,7 +21,7 @@ returns : tie.Need-returns
 unfolding chosen homeOf
 returns c =
     let k : Kernel = c .before .before .before .args .t1 in
-    let e : length (k .threads) ≡ 32 = sym (length-map (k .threads) _) ∙ c .before .before .before .good .0 .1 .1 .0 .1 .0 .1 in
+    let e : length (k .threads) ≡ threadCount = sym (length-map (k .threads) _) ∙ c .before .before .before .good .0 .1 .1 .0 .1 .0 .1 in
     rw (← c .before .first .ensures, past-end (k .threads) noThread e (c .if1 .taken))
 
 cast-i : tie.Need-cast-i

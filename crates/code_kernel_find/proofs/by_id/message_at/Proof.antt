@@ -2,6 +2,7 @@
 use mathlib.Core.Path.{_≡_, sym, _∙_}
 use lib.ListN.{length}
 use borrow.Author.Needs.{needs}
+use Rattle.spec_kernel.specs.Sizes.{messageCount}
 use Rattle.spec_kernel.specs.Records.{noMessage}
 use Rattle.spec_moves.proofs.Joins.{past-end}
 use Rattle.code_kernel_find.proofs.by_id.message_at.Statement.{statement}
@@ -22,7 +23,7 @@ no-message-requires c κs = search needs
 returns-2 : tie.Need-returns-2
 returns-2 c =
     let a = c .before .before .args in
-    let e : length (a .t1) ≡ 64 = search needs in
+    let e : length (a .t1) ≡ messageCount = search needs in
     c .no-message .ensures ∙ sym (past-end (a .t1) noMessage e (c .before .if1 .left))
 
 pub message-at-spec : {M : Type 1} → statement M

@@ -2,6 +2,7 @@
 use mathlib.Core.Path.{_≡_, sym, _∙_}
 use lib.ListN.{length}
 use borrow.Author.Needs.{needs}
+use Rattle.spec_kernel.specs.Sizes.{semaphoreCount}
 use Rattle.spec_kernel.specs.Records.{noSemaphore}
 use Rattle.spec_moves.proofs.Joins.{past-end}
 use Rattle.code_kernel_find.proofs.by_id.semaphore_at.Statement.{statement}
@@ -22,7 +23,7 @@ no-semaphore-requires c κs = search needs
 returns-2 : tie.Need-returns-2
 returns-2 c =
     let a = c .before .before .args in
-    let e : length (a .t1) ≡ 16 = search needs in
+    let e : length (a .t1) ≡ semaphoreCount = search needs in
     c .no-semaphore .ensures ∙ sym (past-end (a .t1) noSemaphore e (c .before .if1 .left))
 
 pub semaphore-at-spec : {M : Type 1} → statement M

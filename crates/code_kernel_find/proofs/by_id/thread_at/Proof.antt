@@ -3,6 +3,7 @@
 use mathlib.Core.Path.{_≡_, sym, _∙_}
 use lib.ListN.{length}
 use borrow.Author.Needs.{needs}
+use Rattle.spec_kernel.specs.Sizes.{threadCount}
 use Rattle.spec_kernel.specs.Records.{noThread}
 use Rattle.spec_moves.proofs.Joins.{past-end}
 use Rattle.code_kernel_find.proofs.by_id.thread_at.Statement.{statement}
@@ -23,7 +24,7 @@ no-thread-requires c κs = search needs
 returns-2 : tie.Need-returns-2
 returns-2 c =
     let a = c .before .before .args in
-    let e : length (a .t1) ≡ 32 = search needs in
+    let e : length (a .t1) ≡ threadCount = search needs in
     c .no-thread .ensures ∙ sym (past-end (a .t1) noThread e (c .before .if1 .left))
 
 pub thread-at-spec : {M : Type 1} → statement M

@@ -7,6 +7,8 @@ use native.Mathlib.Omega.{arith}
 use lib.ListN.{length, getD}
 use borrow.Author.Needs.{needs}
 use borrow.Author.Tests.{eq-eqb, ne-eqb}
+use Rattle.base_queue.specs.Queues.{capacity}
+use Rattle.spec_kernel.specs.Sizes.{threadCount}
 use Rattle.spec_kernel.specs.Records.{noThread}
 use Rattle.spec_kernel.specs.Places.{homeOf}
 use Rattle.spec_moves.proofs.Joins.{past-end}
@@ -28,7 +30,7 @@ meets : (c : tie.Joined1 Inv-loop μ-loop)
 unfolding homeOf
 meets c =
     let a = c .before .before .before .before .before .args in
-    let e : length (a .t1) ≡ 32 = search needs in
+    let e : length (a .t1) ≡ threadCount = search needs in
     ⊎-elim (λ w. w .3 ∙ w .2 .ensures) (λ w. w .1 ∙ sym (ap homeOf (past-end (a .t1) noThread e (omega (arith, w .0 .left)))))
     (c .if1 .came)
 
@@ -38,7 +40,7 @@ size-requires c κs = search needs
 loop-holds : tie.Need-loop-holds Inv-loop μ-loop
 loop-holds c =
     let a = c .before .before .args in
-    let e : length (a .places .at) ≡ 64 = search needs in
+    let e : length (a .places .at) ≡ capacity = search needs in
     search-starts (isHome (a .t1) (a .home)) (a .places) _ (c .size .ensures) e
 
 array-read-u : tie.Need-array-read-u Inv-loop μ-loop

@@ -7,6 +7,8 @@ use mathlib.Core.Bool.{and-false}
 use native.Mathlib.Omega.{arith}
 use lib.ListN.{length, getD}
 use borrow.Author.Needs.{needs}
+use Rattle.base_queue.specs.Queues.{capacity}
+use Rattle.spec_kernel.specs.Sizes.{messageCount}
 use Rattle.spec_kernel.specs.Records.{noMessage}
 use Rattle.spec_moves.proofs.Joins.{past-end}
 use Rattle.spec_kernel.specs.Channels.{firstFor}
@@ -27,7 +29,7 @@ meets : (c : tie.Joined1 Inv-loop μ-loop)
     c .if1 .mine ≡ isMine (a .t1) (a .t) (a .mask) (getD (a .posted .at) (c .before .before .loop .i) 0)
 meets c =
     let a = c .before .before .before .before .before .args in
-    let e : length (a .t1) ≡ 64 = search needs in
+    let e : length (a .t1) ≡ messageCount = search needs in
     ⊎-elim (λ w. w .3 ∙ w .2 .ensures) (λ w. w .1 ∙ rw (past-end (a .t1) noMessage e (w .0 .left), and-false)) (c .if1 .came)
 
 size-requires : tie.Need-size-requires Inv-loop μ-loop
@@ -36,7 +38,7 @@ size-requires c κs = search needs
 loop-holds : tie.Need-loop-holds Inv-loop μ-loop
 loop-holds c =
     let a = c .before .before .args in
-    let e : length (a .posted .at) ≡ 64 = search needs in
+    let e : length (a .posted .at) ≡ capacity = search needs in
     search-starts (isMine (a .t1) (a .t) (a .mask)) (a .posted) _ (c .size .ensures) e
 
 array-read-u : tie.Need-array-read-u Inv-loop μ-loop

@@ -5,15 +5,16 @@ use lib.ListN.{getD}
 use borrow.Author.Needs.{needs}
 use borrow.Author.Tests.{not-true, not-false}
 use Rattle.spec_kernel.specs.Records.{noThread}
+use Rattle.spec_kernel.specs.Sizes.{threadCount}
 use Rattle.code_kernel_find.proofs.Lowest.{Passed, free-here, free-next, free-last, free-end, within}
 use Rattle.code_kernel_find.proofs.free.free_thread.Statement.{statement}
 use Rattle.code_kernel_find.proofs.free.free_thread.Tie as tie
 
 abbrev Inv-loop : tie.InvT-loop
-Inv-loop threads n i₀ i = Passed (λ x. x .live) threads 32 i × (n ≤ 32) × (i ≤ n)
+Inv-loop threads n i₀ i = Passed (λ x. x .live) threads threadCount i × (n ≤ threadCount) × (i ≤ n)
 
 abbrev μ-loop : tie.MeasureT-loop
-μ-loop threads n i₀ i = 32 - i
+μ-loop threads n i₀ i = threadCount - i
 
 element-copy-out-bound : tie.Need-element-copy-out-bound Inv-loop μ-loop
 element-copy-out-bound c = search needs
@@ -22,7 +23,9 @@ bound-requires : tie.Need-bound-requires Inv-loop μ-loop
 bound-requires c κs = search needs
 
 loop-holds : tie.Need-loop-holds Inv-loop μ-loop
-loop-holds c = (search needs, within (getD (c .before .args .t1) 31 noThread .live) {n = 32} (c .bound .ensures), omega arith)
+loop-holds c =
+    let live = getD (c .before .args .t1) (threadCount - 1) noThread .live in
+    (search needs, within live {n = threadCount} (c .bound .ensures), omega arith)
 
 mul-if1 : tie.Need-mul-if1 Inv-loop μ-loop
 mul-if1 c = search needs

@@ -1,6 +1,7 @@
 use Prim.Native.Nat.{min}
 use mathlib.Core.Path.{_≡_}
 use borrow.Author.Needs.{needs}
+use Rattle.spec_notes.specs.Notes.{longestNote}
 use Rattle.code_notes.proofs.note.put_end.Statement.{statement}
 use Rattle.code_notes.proofs.note.put_end.Tie as tie
 
@@ -21,7 +22,7 @@ same-length c = search needs
 
 returns : tie.Need-returns
 returns c =
-    let l : c .before .before .before .least .result ≡ min (c .before .before .before .before .before .before .args .at) 2048 =
+    let l : c .before .before .before .least .result ≡ min (c .before .before .before .before .before .before .args .at) longestNote =
     c .before .before .before .least .ensures in
     rw (← l) (c .before .before .put-number .ensures)
 

@@ -2,16 +2,15 @@
 -- length.
 use Prim.Native.Nat.{ℕ}
 use mathlib.Core.Path.{_≡_, ap, _∙_}
-use mathlib.Core.Bool.{cond}
-use mathlib.Core.List.{List, [], _∷_, _++_}
+use mathlib.Core.List.{List, _++_}
 use native.Mathlib.Omega.{arith}
-use lib.Dec.{eqb}
 use lib.ListN.{replicate}
 use borrow.Author.Needs.{needs}
+use Rattle.spec_kernel.specs.Sizes.{eventCount}
 use Rattle.base_bytes.proofs.Writing.{puts-append}
 use Rattle.base_bytes.specs.Pens.{pen, puts}
-use Rattle.code_notes_events.specs.EventEntries.{eventEntries}
-use Rattle.code_notes.specs.SectionsOf.{eventPart}
+use Rattle.spec_notes.specs.Sections.{bitNoted, eventEntries}
+use Rattle.code_notes_spans.specs.Spans.{inSpan, eventSpan}
 use Rattle.code_notes.proofs.Sizes.{events-short, event-inside}
 use Rattle.code_notes.proofs.ScratchParts.{Held, held-length, held-in, first-inside}
 use Rattle.code_notes.proofs.note.put_event_part.Statement.{statement}
@@ -23,7 +22,7 @@ event-span-requires c κs = search needs
 cast-first : tie.Need-cast-first
 cast-first c =
     let s = c .before in
-    omega (arith, first-inside (s .event-span .ensures) 8 (event-inside (s .before .before .args .c)))
+    omega (arith, first-inside (s .event-span .ensures) eventCount (event-inside (s .before .before .args .c)))
 
 slice-aggregate-put-bits : tie.Need-slice-aggregate-put-bits
 slice-aggregate-put-bits c = search needs
@@ -50,17 +49,17 @@ start-of c = span-of c .before .before
 -- what the scratch array holds is the part
 written : (c : tie.After-put-events) → let a = start-of c .args in
     Held (c .put-events .last .0) (c .put-events .result)
-    (eventPart (a .c) (a .k .bits) (a .k2 .bits) (a .k .events) (a .k2 .events))
+    (bitNoted (a .k .bits) (a .k2 .bits) ++ inSpan (eventSpan (a .c)) (eventEntries (a .k .events) (a .k2 .events)))
 written c =
     let a = start-of c .args in
     let old = a .k .events in
     let new = a .k2 .events in
-    let bits : List ℕ = cond (eqb (a .k .bits) (a .k2 .bits)) [] (8 ∷ []) in
+    let bits : List ℕ = bitNoted (a .k .bits) (a .k2 .bits) in
     let s = span-of c .event-span in
     let entries = eventEntries old new (s .result .first) (s .result .count) in
     let both : pen (c .put-events .last .0) (c .put-events .result) ≡ puts (pen (replicate 89 0) 0) (bits ++ entries) =
     rw puts-append (c .put-events .ensures ∙ ap (λ q. puts q entries) (bits-of c .put-bits .ensures)) in
-    held-in (s .ensures) 89 (λ x. bits ++ eventEntries old new (x .first) (x .count))
+    held-in (s .ensures) (λ i n. bits ++ eventEntries old new i n)
     (events-short (a .c) (a .k .bits) (a .k2 .bits) old new) both
 
 array-share-prefix-scratch : tie.Need-array-share-prefix-scratch

@@ -2,10 +2,11 @@
 -- length.
 use native.Mathlib.Omega.{arith}
 use borrow.Author.Needs.{needs}
+use Rattle.spec_kernel.specs.Sizes.{messageCount}
 use Rattle.base_bytes.specs.Bytes.{le}
 use Rattle.spec_moves.specs.Standing.{postsOf}
-use Rattle.code_notes_messages.specs.MessageEntries.{messageEntries}
-use Rattle.code_notes.specs.SectionsOf.{messagePart}
+use Rattle.spec_notes.specs.Sections.{messageEntries}
+use Rattle.code_notes_spans.specs.Spans.{inSpan, messageSpan}
 use Rattle.code_notes.proofs.Sizes.{messages-short, message-inside}
 use Rattle.code_notes.proofs.ScratchParts.{Held, held-length, held-in, nobody, first-inside}
 use Rattle.code_notes.proofs.note.put_message_part.Statement.{statement}
@@ -31,7 +32,7 @@ cast-first : tie.Need-cast-first
 cast-first c =
     let s = c .before .before .before in
     let a = s .before .before .args in
-    omega (arith, first-inside (s .message-span .ensures) 64 (message-inside (a .c) (a .value)))
+    omega (arith, first-inside (s .message-span .ensures) messageCount (message-inside (a .c) (a .value)))
 
 slice-aggregate-put-messages : tie.Need-slice-aggregate-put-messages
 slice-aggregate-put-messages c = search needs
@@ -52,13 +53,12 @@ start-of c = span-of c .before .before
 -- what the scratch array holds is the part
 written : (c : tie.After-put-messages) → let a = start-of c .args in
     Held (c .put-messages .last .0) (c .put-messages .result)
-    (messagePart (a .c) (a .k2 .runner) (postsOf (a .k)) (a .k2 .messages) (a .value))
+    (inSpan (messageSpan (a .c) (a .value)) (messageEntries (a .c) (a .k2 .runner) (postsOf (a .k)) (a .k2 .messages)))
 written c =
     let a = start-of c .args in
     let old = postsOf (a .k) in
     let new = a .k2 .messages in
-    held-in (span-of c .message-span .ensures) 1088
-    (λ x. messageEntries (a .c) (a .k2 .runner) old new (x .first) (x .count))
+    held-in (span-of c .message-span .ensures) (messageEntries (a .c) (a .k2 .runner) old new)
     (messages-short (a .c) (a .k2 .runner) old new (a .value)) (c .put-messages .ensures)
 
 array-share-prefix-scratch : tie.Need-array-share-prefix-scratch

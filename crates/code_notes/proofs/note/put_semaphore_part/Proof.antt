@@ -2,9 +2,10 @@
 -- its length.
 use native.Mathlib.Omega.{arith}
 use borrow.Author.Needs.{needs}
+use Rattle.spec_kernel.specs.Sizes.{semaphoreCount}
 use Rattle.base_bytes.specs.Bytes.{le}
-use Rattle.code_notes_semaphores.specs.SemaphoreEntries.{semaphoreEntries}
-use Rattle.code_notes.specs.SectionsOf.{semaphorePart}
+use Rattle.spec_notes.specs.Sections.{semaphoreEntries}
+use Rattle.code_notes_spans.specs.Spans.{inSpan, semaphoreSpan}
 use Rattle.code_notes.proofs.Sizes.{semaphores-short, semaphore-inside}
 use Rattle.code_notes.proofs.ScratchParts.{Held, held-length, held-in, nobody, first-inside}
 use Rattle.code_notes.proofs.note.put_semaphore_part.Statement.{statement}
@@ -30,7 +31,7 @@ cast-first : tie.Need-cast-first
 cast-first c =
     let s = c .before .before .before in
     let a = s .before .before .args in
-    omega (arith, first-inside (s .semaphore-span .ensures) 16 (semaphore-inside (a .c) (a .value)))
+    omega (arith, first-inside (s .semaphore-span .ensures) semaphoreCount (semaphore-inside (a .c) (a .value)))
 
 slice-aggregate-put-semaphores : tie.Need-slice-aggregate-put-semaphores
 slice-aggregate-put-semaphores c = search needs
@@ -51,13 +52,12 @@ start-of c = span-of c .before .before
 -- what the scratch array holds is the part
 written : (c : tie.After-put-semaphores) → let a = start-of c .args in
     Held (c .put-semaphores .last .0) (c .put-semaphores .result)
-    (semaphorePart (a .c) (a .k .semaphores) (a .k2 .semaphores) (a .value))
+    (inSpan (semaphoreSpan (a .c) (a .value)) (semaphoreEntries (a .c) (a .k .semaphores) (a .k2 .semaphores)))
 written c =
     let a = start-of c .args in
     let old = a .k .semaphores in
     let new = a .k2 .semaphores in
-    held-in (span-of c .semaphore-span .ensures) 240
-    (λ x. semaphoreEntries (a .c) old new (x .first) (x .count))
+    held-in (span-of c .semaphore-span .ensures) (semaphoreEntries (a .c) old new)
     (semaphores-short (a .c) old new (a .value)) (c .put-semaphores .ensures)
 
 array-share-prefix-scratch : tie.Need-array-share-prefix-scratch

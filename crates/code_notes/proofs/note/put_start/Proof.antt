@@ -1,9 +1,8 @@
 -- `code_notes::note::put_start` meets its contract: the record, and the part behind its length from a scratch array that is long enough.
 use mathlib.Core.Path.{_∙_}
 use borrow.Author.Needs.{needs}
-use Rattle.code_notes_scheduler.specs.SchedulerEntry.{levelsNoted}
-use Rattle.code_notes.specs.SectionsOf.{levelsOf}
-use Rattle.code_notes.proofs.Sizes.{levels-short}
+use Rattle.spec_notes.specs.Sections.{schedulerSection}
+use Rattle.spec_notes.proofs.EntriesShort.{scheduler-short}
 use Rattle.code_notes.proofs.ScratchParts.{Held, held-length, held}
 use Rattle.code_notes.proofs.note.put_start.Statement.{statement}
 use Rattle.code_notes.proofs.note.put_start.Tie as tie
@@ -29,10 +28,11 @@ start-of c = record-of c .before .before .before .before
 
 -- what the scratch array holds is the part
 written : (c : tie.After-put-scheduler) → let a = start-of c .args in
-    Held (c .put-scheduler .last .0) (c .put-scheduler .result) (levelsNoted (a .c) (levelsOf (a .k)) (levelsOf (a .k2)))
+    Held (c .put-scheduler .last .0) (c .put-scheduler .result) (schedulerSection (a .k) (a .c) (a .k2))
+unfolding schedulerSection
 written c =
     let a = start-of c .args in
-    held 4 (levels-short (a .c) (levelsOf (a .k)) (levelsOf (a .k2))) (c .put-scheduler .ensures)
+    held (scheduler-short (a .k) (a .c) (a .k2)) (c .put-scheduler .ensures)
 
 abbrev scheduler-of : tie.After-put-section → tie.After-put-scheduler
 scheduler-of c = c .before .before .before .before

@@ -3,9 +3,8 @@
 use borrow.Author.Needs.{needs}
 use Rattle.base_bytes.specs.Bytes.{le}
 use Rattle.spec_moves.specs.Standing.{threadsOf}
-use Rattle.spec_notes.specs.Sections.{entriesFrom}
-use Rattle.code_notes_threads.specs.ThreadEntries.{isChanged, entryOf}
-use Rattle.code_notes.specs.SectionsOf.{threadPart}
+use Rattle.spec_notes.specs.Sections.{threadEntries}
+use Rattle.code_notes_spans.specs.Spans.{inSpan, threadSpan}
 use Rattle.code_notes.proofs.Sizes.{threads-short}
 use Rattle.code_notes.proofs.ScratchParts.{Held, held-length, held-in, nobody}
 use Rattle.code_notes.proofs.note.put_thread_part.Statement.{statement}
@@ -46,13 +45,13 @@ start-of c = span-of c .before .before
 -- what the scratch array holds is the part
 written : (c : tie.After-put-threads) → let a = start-of c .args in
     Held (c .put-threads .last .0) (c .put-threads .result)
-    (threadPart (a .c) (a .k .runner) (a .waiter) (threadsOf (a .k)) (a .k2 .threads) (a .value))
+    (inSpan (threadSpan (a .c) (a .k .runner) (a .value) (a .waiter))
+    (threadEntries (a .c) (a .k .runner) (threadsOf (a .k)) (a .k2 .threads)))
 written c =
     let a = start-of c .args in
     let old = threadsOf (a .k) in
     let new = a .k2 .threads in
-    held-in (span-of c .thread-span .ensures) 480
-    (λ x. entriesFrom (isChanged (a .c) (a .k .runner) old new) (entryOf (a .c) old new) (x .first) (x .count))
+    held-in (span-of c .thread-span .ensures) (threadEntries (a .c) (a .k .runner) old new)
     (threads-short (a .c) (a .k .runner) (a .waiter) old new (a .value)) (c .put-threads .ensures)
 
 array-share-prefix-scratch : tie.Need-array-share-prefix-scratch

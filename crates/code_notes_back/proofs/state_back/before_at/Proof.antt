@@ -1,4 +1,4 @@
--- `code_notes_back::state_back::before_at` meets its contract, field by field.
+-- `code_notes_back::state_back::before_at` meets its contract: each part of the state from the bytes of its section.
 use Prim.Native.Nat.{ℕ}
 use mathlib.Core.Path.{_≡_}
 use mathlib.Core.List.{List}
@@ -8,43 +8,30 @@ use Rattle.spec_kernel.specs.declared.records.Kernel.{Kernel}
 use Rattle.spec_moves.specs.declared.parts.Threads.{Threads}
 use Rattle.spec_moves.specs.declared.parts.Posts.{Posts}
 use Rattle.spec_moves.specs.Standing.{threadsOf, postsOf}
+use Rattle.spec_moves.specs.States.{stateOf}
 use Rattle.spec_calls.specs.declared.call.Call.{Call}
-use Rattle.spec_notes.specs.Back.{Sections, semaphoresBefore, eventsBefore, bitsBefore, earlier}
-use Rattle.code_notes_frame.specs.Meant.{sectionsMeant}
-use Rattle.code_notes_back.specs.Restored.{threadsBack, postsBack, beforeAt}
+use Rattle.spec_notes.specs.Notes.{sectionCount, threadsIn, semaphoresIn, eventsIn, messagesIn}
+use Rattle.spec_notes.specs.Frames.{sectionsAt}
+use Rattle.spec_notes.specs.Back.{semaphoresBefore, eventsBefore, bitsBefore, earlier, threadsBack, postsBack, beforeAt}
 use borrow.Author.Needs.{needs}
 use Rattle.code_notes_back.proofs.state_back.before_at.Statement.{statement}
 use Rattle.code_notes_back.proofs.state_back.before_at.Tie as tie
 
 -- the state that the parts make, of the bytes of their sections
-together : (c : Call) (k : Kernel) (x : Sections) (u v runner : ℕ) {old t : Threads} {m : Posts}
+together : (c : Call) (k : Kernel) (x : List (List ℕ)) (u v runner : ℕ) {old t : Threads} {m : Posts}
     {semaphores : List Semaphore} {events : List Event} {bits uptime : ℕ} {ts ss es ms : List ℕ}
     → old ≡ threadsOf k
-    → ts ≡ x .threads
-    → ss ≡ x .semaphores
-    → es ≡ x .events
-    → ms ≡ x .messages
+    → ts ≡ threadsIn x
+    → ss ≡ semaphoresIn x
+    → es ≡ eventsIn x
+    → ms ≡ messagesIn x
     → t ≡ threadsBack c old ts
     → m ≡ postsBack c (k .runner) (postsOf k) ms
     → semaphores ≡ semaphoresBefore c (k .semaphores) ss
     → events ≡ eventsBefore (k .events) es
     → bits ≡ bitsBefore c (k .bits) es
     → uptime ≡ earlier c (k .uptime)
-    → record {
-      threads = t .records;
-      semaphores = semaphores;
-      events = events;
-      messages = m .records;
-      places = t .places;
-      time = t .time;
-      posted = m .posted;
-      bits = bits;
-      uptime = uptime;
-      unscheduled = u;
-      critical = v;
-      runner = runner;
-    }
-    ≡ beforeAt c k x u v runner
+    → stateOf t semaphores events bits m uptime u v runner ≡ beforeAt c k x u v runner
 unfolding beforeAt
 together c k x u v runner old ts ss es ms threads posts semaphores events bits uptime =
     rw (threads, posts, semaphores, events, bits, uptime, old, ts, ss, es, ms)
@@ -52,23 +39,23 @@ together c k x u v runner old ts ss es ms threads posts semaphores events bits u
 threads-of-requires : tie.Need-threads-of-requires
 threads-of-requires c κs = search needs
 
-part-of-requires : tie.Need-part-of-requires
-part-of-requires c κs = search needs
+section-of-requires : tie.Need-section-of-requires
+section-of-requires c κs = search needs
 
 threads-back-requires : tie.Need-threads-back-requires
 threads-back-requires c κs = search needs
 
-part-of-requires-2 : tie.Need-part-of-requires-2
-part-of-requires-2 c κs = search needs
+section-of-requires-2 : tie.Need-section-of-requires-2
+section-of-requires-2 c κs = search needs
 
 posts-back-requires : tie.Need-posts-back-requires
 posts-back-requires c κs = search needs
 
-part-of-requires-3 : tie.Need-part-of-requires-3
-part-of-requires-3 c κs = search needs
+section-of-requires-3 : tie.Need-section-of-requires-3
+section-of-requires-3 c κs = search needs
 
-part-of-requires-4 : tie.Need-part-of-requires-4
-part-of-requires-4 c κs = search needs
+section-of-requires-4 : tie.Need-section-of-requires-4
+section-of-requires-4 c κs = search needs
 
 semaphores-before-requires : tie.Need-semaphores-before-requires
 semaphores-before-requires c κs = search needs
@@ -86,41 +73,40 @@ earlier-requires c κs = search needs
 abbrev events-of : tie.After-earlier → tie.After-events-before
 events-of c = c .before .before
 
-abbrev semaphore-bytes-of : tie.After-earlier → tie.After-part-of4
+abbrev semaphore-bytes-of : tie.After-earlier → tie.After-section-of4
 semaphore-bytes-of c = events-of c .before .before
 
 -- the tables of both parts that move
 abbrev tables-of : tie.After-earlier → tie.After-threads
 tables-of c = semaphore-bytes-of c .before .before .before .before .before
 
-abbrev event-bytes-of : tie.After-earlier → tie.After-part-of3
+abbrev event-bytes-of : tie.After-earlier → tie.After-section-of3
 event-bytes-of c = tables-of c .before .before .before
 
 abbrev posts-of : tie.After-earlier → tie.After-posts-back
 posts-of c = event-bytes-of c .before
 
-abbrev message-bytes-of : tie.After-earlier → tie.After-part-of2
+abbrev message-bytes-of : tie.After-earlier → tie.After-section-of2
 message-bytes-of c = posts-of c .before
 
 abbrev threads-of : tie.After-earlier → tie.After-threads-back
 threads-of c = message-bytes-of c .before
 
-abbrev thread-bytes-of : tie.After-earlier → tie.After-part-of
+abbrev thread-bytes-of : tie.After-earlier → tie.After-section-of
 thread-bytes-of c = threads-of c .before
 
 abbrev start-of : tie.After-earlier → tie.Start
 start-of c = thread-bytes-of c .before .before .before .before .before
 
 returns : tie.Need-returns
-unfolding sectionsMeant
 returns c =
     let a = start-of c .args in
-    together (a .c) (a .k) (sectionsMeant (a .f) (a .note .now)) (a .u) (a .v) (a .runner)
+    together (a .c) (a .k) (sectionsAt sectionCount (a .s .now)) (a .u) (a .v) (a .runner)
     (thread-bytes-of c .before .threads-of .ensures)
-    (thread-bytes-of c .part-of .ensures)
-    (semaphore-bytes-of c .part-of4 .ensures)
-    (event-bytes-of c .part-of3 .ensures)
-    (message-bytes-of c .part-of2 .ensures)
+    (thread-bytes-of c .section-of .ensures)
+    (semaphore-bytes-of c .section-of4 .ensures)
+    (event-bytes-of c .section-of3 .ensures)
+    (message-bytes-of c .section-of2 .ensures)
     (threads-of c .threads-back .ensures)
     (posts-of c .posts-back .ensures)
     (events-of c .before .semaphores-before .ensures)
@@ -133,12 +119,12 @@ before-at-spec =
     tie.close
     (tie.spec
     threads-of-requires
-    part-of-requires
+    section-of-requires
     threads-back-requires
-    part-of-requires-2
+    section-of-requires-2
     posts-back-requires
-    part-of-requires-3
-    part-of-requires-4
+    section-of-requires-3
+    section-of-requires-4
     semaphores-before-requires
     events-before-requires
     bits-before-requires

@@ -8,7 +8,7 @@ use Rattle.base_rows.specs.Rows.{rowFrom}
 use Rattle.base_rows.proofs.Fitted.{Bytes, drop-bytes, row-at}
 use Rattle.spec_notes.specs.Rows.{schedulerWidths}
 use Rattle.spec_notes.specs.Predicted.{predictedLevels}
-use Rattle.code_notes_back.specs.Restored.{levelsBefore}
+use Rattle.spec_notes.specs.Back.{levelsBefore}
 use Rattle.code_notes_back.proofs.Restoring.{cut-scheduler}
 use borrow.Author.Needs.{needs}
 use Rattle.code_notes_back.proofs.state_back.levels_before.Statement.{statement}

@@ -1,7 +1,6 @@
 -- `code_notes_back::state_back::posts_back` meets its contract, field by field.
 use mathlib.Core.Path.{ap}
-use Rattle.spec_notes.specs.Back.{Filing}
-use Rattle.code_notes_back.specs.Restored.{postsBack}
+use Rattle.spec_notes.specs.Back.{Filing, postsBack}
 use borrow.Author.Needs.{needs}
 use Rattle.code_notes_back.proofs.state_back.posts_back.Statement.{statement}
 use Rattle.code_notes_back.proofs.state_back.posts_back.Tie as tie

@@ -5,14 +5,16 @@ use mathlib.Core.List.{List}
 use native.Mathlib.Nat.{mod-eq-of-lt}
 use native.Mathlib.Omega.{arith}
 use lib.ListN.{getD}
-use Rattle.code_notes_frame.specs.Meant.{sectionsMeant}
-use Rattle.code_notes_back.proofs.Restoring.{levelsOf, back-fits, back-first, back-second}
+use Rattle.spec_notes.specs.Notes.{sectionCount, schedulerIn}
+use Rattle.spec_notes.specs.Frames.{sectionsAt}
+use Rattle.spec_notes.specs.Back.{levelsBefore}
+use Rattle.code_notes_back.proofs.Restoring.{back-fits, back-first, back-second}
 use borrow.Author.Needs.{needs}
 use Rattle.code_notes_back.proofs.state_back.state_before.Statement.{statement}
 use Rattle.code_notes_back.proofs.state_back.state_before.Tie as tie
 
-part-of-requires : tie.Need-part-of-requires
-part-of-requires c κs = search needs
+section-of-requires : tie.Need-section-of-requires
+section-of-requires c κs = search needs
 
 levels-before-requires : tie.Need-levels-before-requires
 levels-before-requires c κs = search needs
@@ -23,26 +25,28 @@ element-copy-out-u c = search needs
 element-copy-out-v : tie.Need-element-copy-out-v
 element-copy-out-v c = search needs
 
--- the row that is read
+-- the sections, and the row that is read of the first
+abbrev parts : tie.After-levels-before → List (List ℕ)
+parts c = sectionsAt sectionCount (c .before .before .before .args .s .now)
+
 levels : (c : tie.After-levels-before) → let a = c .before .before .before .args in
-    c .levels-before .result .fields ≡ levelsOf (a .c) (a .k) (sectionsMeant (a .f) (a .note .now))
-unfolding sectionsMeant
-levels c = c .levels-before .ensures .0 ∙ rw (c .before .part-of .ensures)
+    c .levels-before .result .fields ≡ levelsBefore (a .c) (a .k .unscheduled) (a .k .critical) (a .k .runner) (schedulerIn (parts c))
+levels c = c .levels-before .ensures .0 ∙ rw (c .before .section-of .ensures)
 
 returns : tie.Need-returns
 returns c =
-    let a = c .before .before .before .before .before .before .args in
-    let e = levels (c .before .before .before) in
-    let h : 256 ≤ getD (c .before .before .before .levels-before .result .fields) 0 0 = omega (arith, c .if1 .taken) in
-    sym (back-first (a .c) (a .k) (sectionsMeant (a .f) (a .note .now)) (rw e at h))
+    let r : tie.After-levels-before = c .before .before .before in
+    let a = r .before .before .before .args in
+    let h : 256 ≤ getD (r .levels-before .result .fields) 0 0 = omega (arith, c .if1 .taken) in
+    sym (back-first (a .c) (a .k) (parts r) (rw (levels r) at h))
 
 returns-2 : tie.Need-returns-2
 returns-2 c =
-    let a = c .before .before .before .before .before .before .before .args in
-    let e = levels (c .before .before .before .before) in
-    let g : getD (c .before .before .before .before .levels-before .result .fields) 0 0 < 256 = omega (arith, c .before .if1 .left) in
-    let h : 256 ≤ getD (c .before .before .before .before .levels-before .result .fields) 1 0 = omega (arith, c .if2 .taken) in
-    sym (back-second (a .c) (a .k) (sectionsMeant (a .f) (a .note .now)) (rw e at g) (rw e at h))
+    let r : tie.After-levels-before = c .before .before .before .before in
+    let a = r .before .before .before .args in
+    let g : getD (r .levels-before .result .fields) 0 0 < 256 = omega (arith, c .before .if1 .left) in
+    let h : 256 ≤ getD (r .levels-before .result .fields) 1 0 = omega (arith, c .if2 .taken) in
+    sym (back-second (a .c) (a .k) (parts r) (rw (levels r) at g) (rw (levels r) at h))
 
 element-copy-out-runner : tie.Need-element-copy-out-runner
 element-copy-out-runner c = search needs
@@ -64,21 +68,20 @@ scheduled-requires c κs = search needs
 
 returns-3 : tie.Need-returns-3
 returns-3 c =
-    let a = c .before .before .before .before .before .before .before .before .before .before .args in
-    let r : List ℕ = c .before .before .before .before .before .before .before .levels-before .result .fields in
-    let e = levels (c .before .before .before .before .before .before .before) in
-    let g : getD r 0 0 < 256 = omega (arith, c .before .before .before .before .if1 .left) in
-    let h : getD r 1 0 < 256 = omega (arith, c .before .before .before .if2 .left) in
-    let m : getD r 2 0 % 256 ≡ getD r 2 0 =
-    mod-eq-of-lt (c .before .before .before .before .before .before .before .levels-before .ensures .1) in
-    rw (c .scheduled .ensures, c .before .before-at .ensures, m, e)
-    (sym (back-fits (a .c) (a .k) (sectionsMeant (a .f) (a .note .now)) (rw e at g) (rw e at h)))
+    let r : tie.After-levels-before = c .before .before .before .before .before .before .before in
+    let a = r .before .before .before .args in
+    let row : List ℕ = r .levels-before .result .fields in
+    let g : getD row 0 0 < 256 = omega (arith, c .before .before .before .before .if1 .left) in
+    let h : getD row 1 0 < 256 = omega (arith, c .before .before .before .if2 .left) in
+    let m : getD row 2 0 % 256 ≡ getD row 2 0 = mod-eq-of-lt (r .levels-before .ensures .1) in
+    rw (c .scheduled .ensures, c .before .before-at .ensures, m, levels r)
+    (sym (back-fits (a .c) (a .k) (parts r) (rw (levels r) at g) (rw (levels r) at h)))
 
 pub state-before-spec : {M : Type 1} → statement M
 state-before-spec =
     tie.close
     (tie.spec
-    part-of-requires
+    section-of-requires
     levels-before-requires
     element-copy-out-u
     element-copy-out-v

@@ -1,7 +1,6 @@
 -- `code_notes_back::state_back::threads_back` meets its contract, field by field.
 use mathlib.Core.Path.{ap}
-use Rattle.spec_notes.specs.Back.{Threading}
-use Rattle.code_notes_back.specs.Restored.{threadsBack}
+use Rattle.spec_notes.specs.Back.{Threading, threadsBack}
 use borrow.Author.Needs.{needs}
 use Rattle.code_notes_back.proofs.state_back.threads_back.Statement.{statement}
 use Rattle.code_notes_back.proofs.state_back.threads_back.Tie as tie

@@ -6,7 +6,7 @@ use native.Mathlib.Omega.{arith}
 use lib.Dec.{eqb}
 use lib.ListN.{length, getD, take, drop, length-set}
 use Rattle.base_queue.specs.declared.Queue.{Queue}
-use Rattle.base_queue.specs.Queues.{pad}
+use Rattle.base_queue.specs.Queues.{capacity, pad}
 use Rattle.base_queue.proofs.Queues.{length-items, sized-items}
 use Rattle.base_rows.proofs.RowTurns.{filled-next}
 use Rattle.spec_notes.specs.Back.{merge}
@@ -17,11 +17,12 @@ use Rattle.code_notes_back.proofs.table_back.merged.Tie as tie
 
 abbrev Inv-loop : tie.InvT-loop
 Inv-loop at l n a₀ j₀ i₀ a j i =
-    (j ≤ i) × (i ≤ 64) × (n ≤ 64) × (length at ≡ 64) × (length l ≡ 64) × (length a ≡ 64) × (a ≡ pad (take i a))
+    (j ≤ i) × (i ≤ capacity) × (n ≤ capacity) × (length at ≡ capacity) × (length l ≡ capacity) × (length a ≡ capacity)
+    × (a ≡ pad (take i a))
     × (merge (length at) at (take n l) ≡ take i a ++ mergeFrom i at (drop j (take n l)))
 
 abbrev μ-loop : tie.MeasureT-loop
-μ-loop at l n a₀ j₀ i₀ a j i = 64 - i
+μ-loop at l n a₀ j₀ i₀ a j i = capacity - i
 
 size-requires : tie.Need-size-requires Inv-loop μ-loop
 size-requires c κs = search needs
@@ -29,7 +30,7 @@ size-requires c κs = search needs
 loop-holds : tie.Need-loop-holds Inv-loop μ-loop
 loop-holds c =
     let q : Queue = c .before .before .args .q in
-    let e : length (q .at) ≡ 64 = search needs in
+    let e : length (q .at) ≡ capacity = search needs in
     (omega arith, omega arith, omega (arith, length-items q e, c .size .ensures), search needs, e, refl, refl, refl)
 
 array-read-x : tie.Need-array-read-x Inv-loop μ-loop
@@ -86,7 +87,7 @@ returns-2 c =
     let a = c .before .before .before .before .args in
     let l = c .before .loop in
     rw (sized-items (a .q) _ (c .before .before .size .ensures))
-    (store-done (l .a) (l .i) (l .inv .5) (l .inv .6) _ _ 64 (omega arith) (omega arith) (l .inv .7)
+    (store-done (l .a) (l .i) (l .inv .5) (l .inv .6) _ _ capacity (omega arith) (omega arith) (l .inv .7)
     (merge-over (a .t1) _ (l .i) (omega arith)))
 
 pub merged-spec : {M : Type 1} → statement M

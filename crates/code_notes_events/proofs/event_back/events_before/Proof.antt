@@ -3,6 +3,7 @@ use Prim.Native.Nat.{_-_}
 use mathlib.Core.Path.{_≡_, sym, _∙_}
 use native.Mathlib.Omega.{arith}
 use lib.ListN.{length, length-set}
+use Rattle.spec_kernel.specs.Sizes.{eventCount}
 use Rattle.spec_notes.specs.Rows.{eventWidths}
 use Rattle.spec_notes.specs.Back.{eventsBefore}
 use Rattle.code_notes_entries.proofs.EntryTurns.{flaggedFrom, entries-end, Turn, turn-short, turn-less, stored, skipped}
@@ -13,7 +14,7 @@ use Rattle.code_notes_events.proofs.event_back.events_before.Tie as tie
 
 abbrev Inv-loop : tie.InvT-loop
 Inv-loop s new a₀ p₀ a p =
-    (length new ≡ 8) × (length a ≡ 8) × (eventsBefore new s ≡ flaggedFrom eventWidths (eventDoes new) s p a)
+    (length new ≡ eventCount) × (length a ≡ eventCount) × (eventsBefore new s ≡ flaggedFrom eventWidths (eventDoes new) s p a)
 
 abbrev μ-loop : tie.MeasureT-loop
 μ-loop s new a₀ p₀ a p = length s - p

@@ -1,6 +1,5 @@
 -- `code_notes_events::event_notes::put_bits` meets its contract: a byte where they differ.
 use borrow.Author.Tests.{eq-eqb, ne-eqb}
-use borrow.Author.Tests.{eq-eqb, ne-eqb}
 use Rattle.base_bytes.specs.Pens.{puts}
 use borrow.Author.Needs.{needs}
 use Rattle.code_notes_events.proofs.event_notes.put_bits.Statement.{statement}

@@ -1,22 +1,22 @@
 -- `code_notes_events::event_notes::put_events` meets its contract: what is still to write are the entries from i on.
-use mathlib.Core.Bool.{not}
+use Rattle.spec_kernel.specs.Sizes.{eventCount}
 use Rattle.spec_kernel.specs.Records.{noEvent}
-use Rattle.spec_notes.specs.Touched.{sameEvent}
-use Rattle.code_notes_events.specs.EventEntries.{eventEntries}
+use Rattle.spec_notes.specs.Touched.{changedEvent}
+use Rattle.spec_notes.specs.Sections.{eventEntries}
 use Prim.Native.Nat.{_<_}
 use mathlib.Core.Path.{_≡_, sym, _∙_}
 use native.Mathlib.Omega.{arith}
 use lib.ListN.{length}
 use Rattle.base_bytes.specs.Pens.{pen, puts}
 use Rattle.base_bytes.proofs.Writing.{puts-append}
-use Rattle.code_notes_entries.proofs.Entries.{entries-next, entries-none, past-both, no-event}
+use Rattle.code_notes_entries.proofs.Entries.{entries-next, entries-past, no-event}
 use borrow.Author.Needs.{needs}
 use Rattle.code_notes_events.proofs.event_notes.put_events.Statement.{statement}
 use Rattle.code_notes_events.proofs.event_notes.put_events.Tie as tie
 
 abbrev Inv-loop : tie.InvT-loop
 Inv-loop log₀ at first count old new p₀ i₀ left₀ log p i left =
-    (length old ≡ 8) × (length new ≡ 8) × (length log ≡ length log₀)
+    (length old ≡ eventCount) × (length new ≡ eventCount) × (length log ≡ length log₀)
     × (puts (pen log₀ at) (eventEntries old new first count) ≡ puts (pen log p) (eventEntries old new i left))
 
 abbrev μ-loop : tie.MeasureT-loop
@@ -33,8 +33,7 @@ unfolding puts
 returns c =
     let l = c .before .before .loop in
     let a = c .before .before .before .before .args in
-    sym (l .inv .3 ∙ rw (entries-none _ _ (l .i) (l .left) (past-both (λ x y. not (sameEvent x y)) (a .t3) (a .t4) noEvent (l .inv .0)
-    (l .inv .1) no-event (c .if1 .taken))))
+    sym (l .inv .3 ∙ rw (entries-past changedEvent (a .t3) (a .t4) noEvent _ (l .left) (l .inv .0) (l .inv .1) no-event (c .if1 .taken)))
 
 cast-j : tie.Need-cast-j Inv-loop μ-loop
 cast-j c = search needs

@@ -1,5 +1,6 @@
 -- `code_notes_frame::last::has_last` meets its contract, test by test.
 use borrow.Author.Tests.{le-leb, lt-leb}
+use Rattle.spec_notes.specs.Notes.{leastNote}
 use Rattle.spec_notes.specs.Undo.{hasLast}
 use borrow.Author.Needs.{needs}
 use Rattle.code_notes_frame.proofs.last.has_last.Statement.{statement}
@@ -23,7 +24,7 @@ returns-3 c =
       le-leb 2 _ (c .before .before .if1 .left),
       le-leb _ _ (c .before .if2 .left),
       ← c .before .before .before .last-length .ensures,
-      lt-leb 28 _ (c .if3 .taken),
+      lt-leb leastNote _ (c .if3 .taken),
     )
 
 returns-4 : tie.Need-returns-4
@@ -33,7 +34,7 @@ returns-4 c =
       le-leb 2 _ (c .before .before .if1 .left),
       le-leb _ _ (c .before .if2 .left),
       ← c .before .before .before .last-length .ensures,
-      le-leb 28 _ (c .if3 .left),
+      le-leb leastNote _ (c .if3 .left),
     )
 
 pub has-last-spec : {M : Type 1} → statement M

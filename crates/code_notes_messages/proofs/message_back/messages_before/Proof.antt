@@ -5,7 +5,9 @@ use mathlib.Core.List.{List}
 use native.Mathlib.Omega.{arith}
 use lib.ListN.{length, getD, set, length-set}
 use lib.Seq.{set-out}
+use Rattle.base_queue.specs.Queues.{capacity}
 use Rattle.spec_kernel.specs.declared.records.Message.{Message}
+use Rattle.spec_kernel.specs.Sizes.{messageCount}
 use Rattle.spec_kernel.specs.Records.{noMessage}
 use Rattle.spec_calls.specs.declared.call.Call.{Call}
 use Rattle.base_rows.specs.Rows.{rowFrom}
@@ -21,7 +23,7 @@ use Rattle.code_notes_messages.proofs.message_back.messages_before.Tie 
 -- what is filed so far, and that the entries from p on file the rest
 abbrev Filed : Call → ℕ → List Message → List ℕ → List Message → List ℕ → List ℕ → ℕ → Type 0
 Filed c runner new s messages out places p =
-    (length messages ≡ 64) × (length out ≡ 64) × (length places ≡ 64)
+    (length messages ≡ messageCount) × (length out ≡ capacity) × (length places ≡ capacity)
     × (messagesBefore c runner new s ≡ flaggedFrom messageWidths (messageDoes c runner new) s p
     (record { messages = messages; out = out; at = places }))
 

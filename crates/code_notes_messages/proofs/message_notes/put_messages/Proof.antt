@@ -1,22 +1,22 @@
 -- `code_notes_messages::message_notes::put_messages` meets its contract: what is still to write are the entries from i on.
-use mathlib.Core.Bool.{not}
+use Rattle.spec_kernel.specs.Sizes.{messageCount}
 use Rattle.spec_kernel.specs.Records.{noMessage}
-use Rattle.spec_notes.specs.Touched.{sameMessage}
-use Rattle.code_notes_messages.specs.MessageEntries.{messageEntries}
+use Rattle.spec_notes.specs.Touched.{changedMessage}
+use Rattle.spec_notes.specs.Sections.{messageEntries}
 use Prim.Native.Nat.{_<_}
 use mathlib.Core.Path.{_≡_, refl, sym, _∙_}
 use native.Mathlib.Omega.{arith}
 use lib.ListN.{length, length-map}
 use Rattle.base_bytes.specs.Pens.{pen, puts}
 use Rattle.base_bytes.proofs.Writing.{puts-append}
-use Rattle.code_notes_entries.proofs.Entries.{entries-next, entries-none, past-both, no-message}
+use Rattle.code_notes_entries.proofs.Entries.{entries-next, entries-past, no-message}
 use borrow.Author.Needs.{needs}
 use Rattle.code_notes_messages.proofs.message_notes.put_messages.Statement.{statement}
 use Rattle.code_notes_messages.proofs.message_notes.put_messages.Tie as tie
 
 abbrev Inv-loop : tie.InvT-loop
 Inv-loop log₀ at c runner first count new records posted p₀ i₀ left₀ log p i left =
-    (length records ≡ 64) × (length new ≡ 64) × (length log ≡ length log₀)
+    (length records ≡ messageCount) × (length new ≡ messageCount) × (length log ≡ length log₀)
     × (puts (pen log₀ at) (messageEntries c runner (record { records = records; posted = posted }) new first count) ≡ puts (pen log p)
     (messageEntries c runner (record { records = records; posted = posted }) new i left))
 
@@ -26,7 +26,8 @@ abbrev μ-loop : tie.MeasureT-loop
 loop-holds : tie.Need-loop-holds Inv-loop μ-loop
 loop-holds c =
     let s = c .before .before .before in
-    let e : length (s .args .old .records) ≡ 64 = sym (length-map (s .args .old .records) _) ∙ s .good .1 .1 .1 .1 .0 .1 .1 .0 .1 .0 .1 in
+    let e : length (s .args .old .records) ≡ messageCount =
+    sym (length-map (s .args .old .records) _) ∙ s .good .1 .1 .1 .1 .0 .1 .1 .0 .1 .0 .1 in
     (e, search needs, search needs, refl)
 
 same-length : tie.Need-same-length Inv-loop μ-loop
@@ -37,8 +38,8 @@ unfolding puts
 returns c =
     let l = c .before .before .loop in
     let a = c .before .before .before .before .before .before .args in
-    sym (l .inv .3 ∙ rw (entries-none _ _ (l .i) (l .left) (past-both (λ x y. not (sameMessage x y)) (a .old .records) (a .t6) noMessage
-    (l .inv .0) (l .inv .1) no-message (c .if1 .taken))))
+    sym (l .inv .3 ∙ rw (entries-past changedMessage (a .old .records) (a .t6) noMessage _ (l .left) (l .inv .0) (l .inv .1) no-message
+    (c .if1 .taken)))
 
 cast-j : tie.Need-cast-j Inv-loop μ-loop
 cast-j c = search needs

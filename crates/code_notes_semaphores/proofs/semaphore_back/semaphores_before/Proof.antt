@@ -3,6 +3,7 @@ use Prim.Native.Nat.{_-_}
 use mathlib.Core.Path.{_≡_, sym, _∙_}
 use native.Mathlib.Omega.{arith}
 use lib.ListN.{length, length-set, length-map}
+use Rattle.spec_kernel.specs.Sizes.{semaphoreCount}
 use Rattle.spec_notes.specs.Rows.{semaphoreWidths}
 use Rattle.spec_notes.specs.Back.{semaphoresBefore}
 use Rattle.code_notes_entries.proofs.EntryTurns.{flaggedFrom, entries-end, Turn, turn-short, turn-less, stored, skipped}
@@ -13,7 +14,8 @@ use Rattle.code_notes_semaphores.proofs.semaphore_back.semaphores_befor
 
 abbrev Inv-loop : tie.InvT-loop
 Inv-loop c s new a₀ p₀ a p =
-    (length new ≡ 16) × (length a ≡ 16) × (semaphoresBefore c new s ≡ flaggedFrom semaphoreWidths (semaphoreDoes c new) s p a)
+    (length new ≡ semaphoreCount) × (length a ≡ semaphoreCount)
+    × (semaphoresBefore c new s ≡ flaggedFrom semaphoreWidths (semaphoreDoes c new) s p a)
 
 abbrev μ-loop : tie.MeasureT-loop
 μ-loop c s new a₀ p₀ a p = length s - p

@@ -4,6 +4,7 @@ use mathlib.Core.Path.{_≡_, refl, _∙_}
 use mathlib.Core.List.{map, _++_}
 use native.Mathlib.Omega.{arith}
 use lib.ListN.{length, take, drop, length-set}
+use Rattle.spec_kernel.specs.Sizes.{semaphoreCount}
 use Rattle.spec_kernel.specs.Records.{noSemaphore}
 use Rattle.base_queue.proofs.Maps.{map-next, map-end}
 use Rattle.spec_notes.specs.Touched.{youngerSemaphore}
@@ -13,10 +14,11 @@ use Rattle.code_notes_semaphores.proofs.semaphore_back.younger_all.Tie 
 
 abbrev Inv-loop : tie.InvT-loop
 Inv-loop c new next₀ i₀ next i =
-    (i ≤ 16) × (length new ≡ 16) × (length next ≡ 16) × (next ≡ take i (map (youngerSemaphore c) new) ++ drop i new)
+    (i ≤ semaphoreCount) × (length new ≡ semaphoreCount) × (length next ≡ semaphoreCount)
+    × (next ≡ take i (map (youngerSemaphore c) new) ++ drop i new)
 
 abbrev μ-loop : tie.MeasureT-loop
-μ-loop c new next₀ i₀ next i = 16 - i
+μ-loop c new next₀ i₀ next i = semaphoreCount - i
 
 loop-holds : tie.Need-loop-holds Inv-loop μ-loop
 loop-holds c = (omega arith, search needs, search needs, refl)

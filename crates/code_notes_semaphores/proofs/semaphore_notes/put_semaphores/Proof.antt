@@ -1,21 +1,22 @@
 -- `code_notes_semaphores::semaphore_notes::put_semaphores` meets its contract: what is still to write are the entries from i on.
+use Rattle.spec_kernel.specs.Sizes.{semaphoreCount}
 use Rattle.spec_kernel.specs.Records.{noSemaphore}
 use Rattle.spec_notes.specs.Touched.{changedSemaphore}
-use Rattle.code_notes_semaphores.specs.SemaphoreEntries.{semaphoreEntries}
+use Rattle.spec_notes.specs.Sections.{semaphoreEntries}
 use Prim.Native.Nat.{_<_}
 use mathlib.Core.Path.{_≡_, sym, _∙_}
 use native.Mathlib.Omega.{arith}
 use lib.ListN.{length}
 use Rattle.base_bytes.specs.Pens.{pen, puts}
 use Rattle.base_bytes.proofs.Writing.{puts-append}
-use Rattle.code_notes_entries.proofs.Entries.{entries-next, entries-none, past-both, no-semaphore}
+use Rattle.code_notes_entries.proofs.Entries.{entries-next, entries-past, no-semaphore}
 use borrow.Author.Needs.{needs}
 use Rattle.code_notes_semaphores.proofs.semaphore_notes.put_semaphores.Statement.{statement}
 use Rattle.code_notes_semaphores.proofs.semaphore_notes.put_semaphores.Tie as tie
 
 abbrev Inv-loop : tie.InvT-loop
 Inv-loop log₀ at c first count old new p₀ i₀ left₀ log p i left =
-    (length old ≡ 16) × (length new ≡ 16) × (length log ≡ length log₀)
+    (length old ≡ semaphoreCount) × (length new ≡ semaphoreCount) × (length log ≡ length log₀)
     × (puts (pen log₀ at) (semaphoreEntries c old new first count) ≡ puts (pen log p) (semaphoreEntries c old new i left))
 
 abbrev μ-loop : tie.MeasureT-loop
@@ -32,8 +33,8 @@ unfolding puts
 returns c =
     let l = c .before .before .loop in
     let a = c .before .before .before .before .args in
-    sym (l .inv .3 ∙ rw (entries-none _ _ (l .i) (l .left) (past-both (changedSemaphore (c .before .before .before .before .args .c))
-    (a .t4) (a .t5) noSemaphore (l .inv .0) (l .inv .1) (no-semaphore (c .before .before .before .before .args .c)) (c .if1 .taken))))
+    sym (l .inv .3 ∙ rw (entries-past (changedSemaphore (a .c)) (a .t4) (a .t5) noSemaphore _ (l .left) (l .inv .0) (l .inv .1)
+    (no-semaphore (a .c)) (c .if1 .taken)))
 
 cast-j : tie.Need-cast-j Inv-loop μ-loop
 cast-j c = search needs

@@ -5,13 +5,14 @@ use native.Mathlib.Omega.{arith}
 use lib.ListN.{length}
 use lib.Seq.{set-out}
 use borrow.Author.Needs.{needs}
+use Rattle.base_queue.specs.Queues.{capacity}
 use Rattle.code_notes_threads.proofs.marks.marked.Statement.{statement}
 use Rattle.code_notes_threads.proofs.marks.marked.Tie as tie
 
 returns : tie.Need-returns
 returns c =
     let a = c .before .args in
-    let e : length (a .at) ≡ 64 = search needs in
+    let e : length (a .at) ≡ capacity = search needs in
     let h : length (a .at) ≤ a .i = omega arith in
     sym (set-out (a .at) (a .i) (a .x) h)
 

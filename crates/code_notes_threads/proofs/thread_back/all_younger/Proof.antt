@@ -6,6 +6,7 @@ use mathlib.Core.List.{_++_, map}
 use native.Mathlib.Omega.{arith}
 use lib.ListN.{length, take, drop, length-set, drop-of-length-le}
 use borrow.Author.Needs.{needs}
+use Rattle.spec_kernel.specs.Sizes.{threadCount}
 use Rattle.spec_kernel.specs.Records.{noThread}
 use Rattle.base_rows.proofs.RowTurns.{filled-next, filled-end}
 use Rattle.spec_notes.specs.Touched.{youngerThread}
@@ -15,10 +16,11 @@ use Rattle.code_notes_threads.proofs.thread_back.all_younger.Tie as tie
 
 abbrev Inv-loop : tie.InvT-loop
 Inv-loop c new old₀ i₀ old i =
-    (i ≤ 32) × (length new ≡ 32) × (length old ≡ 32) × (map (youngerThread c) new ≡ take i old ++ map (youngerThread c) (drop i new))
+    (i ≤ threadCount) × (length new ≡ threadCount) × (length old ≡ threadCount)
+    × (map (youngerThread c) new ≡ take i old ++ map (youngerThread c) (drop i new))
 
 abbrev μ-loop : tie.MeasureT-loop
-μ-loop c new old₀ i₀ old i = 32 - i
+μ-loop c new old₀ i₀ old i = threadCount - i
 
 loop-holds : tie.Need-loop-holds Inv-loop μ-loop
 loop-holds c = search needs

@@ -26,9 +26,6 @@ thread-at-requires c κs = search needs
 predicted-requires : tie.Need-predicted-requires
 predicted-requires c κs = search needs
 
-widths-requires : tie.Need-widths-requires
-widths-requires c κs = search needs
-
 byte-at-requires-3 : tie.Need-byte-at-requires-3
 byte-at-requires-3 c κs = search needs
 
@@ -50,7 +47,7 @@ put-record-requires c κs = search needs
 returns : tie.Need-returns
 unfolding withEntry cut
 returns c =
-    let g = c .before .before .before .before .before .before .before .before in
+    let g = c .before .before .before .before .before .before .before in
     let k = g .before .before .before in
     let a = k .before .args in
     let o = g .thread-at .ok .1 .1 .1 in
@@ -66,8 +63,7 @@ returns c =
       c .put-record .ensures,
       c .before .from-row .ensures,
       c .before .before .before .row-at .ensures,
-      c .before .before .before .before .before .widths .ensures,
-      c .before .before .before .before .before .before .before .predicted .ensures,
+      c .before .before .before .before .before .before .predicted .ensures,
       f,
       c .before .before .before .before .byte-at3 .ensures,
       g .thread-at .ensures,
@@ -84,7 +80,6 @@ entry-back-spec =
     cast-thread-at
     thread-at-requires
     predicted-requires
-    widths-requires
     byte-at-requires-3
     row-at-requires
     from-row-requires

@@ -5,6 +5,7 @@ use native.Mathlib.Omega.{arith}
 use lib.ListN.{length, length-map}
 use lib.Seq.{set-out}
 use borrow.Author.Needs.{needs}
+use Rattle.spec_kernel.specs.Sizes.{threadCount}
 use Rattle.code_notes_threads.proofs.thread_back.put_record.Statement.{statement}
 use Rattle.code_notes_threads.proofs.thread_back.put_record.Tie as tie
 
@@ -31,7 +32,7 @@ returns-2 : tie.Need-returns-2
 returns-2 c =
     let d = c .before .before .before .before .before .before .before in
     let a = d .args in
-    let e : length (a .a .threads) ≡ 32 = sym (length-map (a .a .threads) _) ∙ d .good .0 .1 .1 .0 .1 .0 .1 in
+    let e : length (a .a .threads) ≡ threadCount = sym (length-map (a .a .threads) _) ∙ d .good .0 .1 .1 .0 .1 .0 .1 in
     let h : length (a .a .threads) ≤ a .t = omega arith in
     rw (
       c .before .marked3 .ensures,

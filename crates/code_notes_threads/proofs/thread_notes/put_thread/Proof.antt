@@ -19,9 +19,6 @@ put-byte-requires c κs = search needs
 put-byte-requires-2 : tie.Need-put-byte-requires-2
 put-byte-requires-2 c κs = search needs
 
-widths-requires : tie.Need-widths-requires
-widths-requires c κs = search needs
-
 put-fields-requires : tie.Need-put-fields-requires
 put-fields-requires c κs = search needs
 
@@ -32,14 +29,13 @@ returns : tie.Need-returns
 unfolding puts
 returns c =
     let f = c .before .before in
-    let g = f .before .before .before .before .before in
+    let g = f .before .before .before .before in
     let h = g .before .before .before .before in
     let r = h .before .before .before .before in
     rw (
       f .put-fields .ensures,
       g .put-byte2 .ensures,
       h .put-byte .ensures,
-      f .before .widths .ensures,
       r .predicted .ensures,
       r .before .row-of .ensures,
       r .before .before .code-of .ensures,
@@ -54,7 +50,6 @@ put-thread-spec =
     predicted-requires
     put-byte-requires
     put-byte-requires-2
-    widths-requires
     put-fields-requires
     same-length
     returns)

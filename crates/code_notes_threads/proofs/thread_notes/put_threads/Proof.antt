@@ -6,12 +6,12 @@ use mathlib.Core.Logic.{⊎-elim}
 use native.Mathlib.Omega.{arith}
 use lib.ListN.{length, length-map, getD}
 use borrow.Author.Needs.{needs}
+use Rattle.spec_kernel.specs.Sizes.{threadCount}
 use Rattle.spec_kernel.specs.Records.{noThread}
 use Rattle.spec_moves.proofs.Joins.{past-end}
 use Rattle.base_bytes.specs.Pens.{pen, puts}
 use Rattle.base_bytes.proofs.Writing.{puts-append}
-use Rattle.spec_notes.specs.Sections.{entriesFrom}
-use Rattle.code_notes_threads.specs.ThreadEntries.{isChanged, entryOf}
+use Rattle.spec_notes.specs.Sections.{threadEntries}
 use Rattle.code_notes_entries.proofs.Entries.{entries-next}
 use Rattle.code_notes_threads.proofs.ThreadEntries.{entry-here}
 use Rattle.code_notes_threads.proofs.thread_notes.put_threads.Statement.{statement}
@@ -20,14 +20,13 @@ use Rattle.code_notes_threads.proofs.thread_notes.put_threads.Tie as ti
 abbrev Inv-loop : tie.InvT-loop
 Inv-loop log₀ at c runner first count old new places time nobody p₀ t₀ left₀ log p t left =
     (length log ≡ length log₀) × (t + left ≡ first + count)
-    × (puts (pen log₀ at) (entriesFrom (isChanged c runner old new) (entryOf c old new) first count)
-    ≡ puts (pen log p) (entriesFrom (isChanged c runner old new) (entryOf c old new) t left))
+    × (puts (pen log₀ at) (threadEntries c runner old new first count) ≡ puts (pen log p) (threadEntries c runner old new t left))
 
 abbrev μ-loop : tie.MeasureT-loop
 μ-loop log₀ at c runner first count old new places time nobody p₀ t₀ left₀ log p t left = left
 
 -- both tables have a record for each id
-lengths : (c : tie.Start Inv-loop μ-loop) → (length (c .args .t5 .records) ≡ 32) × (length (c .args .t6) ≡ 32)
+lengths : (c : tie.Start Inv-loop μ-loop) → (length (c .args .t5 .records) ≡ threadCount) × (length (c .args .t6) ≡ threadCount)
 lengths c = (sym (length-map (c .args .t5 .records) _) ∙ c .good .1 .1 .1 .1 .0 .1 .1 .0 .1 .0 .1, search needs)
 
 -- where the arms meet
@@ -90,9 +89,12 @@ loop-again c =
     let x : a .c .a < 256 = search needs in
     let y : a .runner < 256 = search needs in
     let e = lengths s in
-    let n = entries-next (isChanged (a .c) (a .runner) (a .t5) (a .t6)) (entryOf (a .c) (a .t5) (a .t6)) (l .t) (l .left) (omega arith) in
-    let h = entry-here (a .c) (a .runner) (a .t5) (a .t6) (l .t) x y (e .0) (e .1) in
-    (b .kept .0 ∙ l .inv .0, omega arith, l .inv .2 ∙ rw (n, puts-append, b .ensures, meets m .0, meets m .1, h))
+    let n : 0 < l .left = omega arith in
+    let h = entry-here (a .c) (a .runner) (a .t5) (a .t6) (l .t) x y (e .0) (e .1) in (
+      b .kept .0 ∙ l .inv .0,
+      omega arith,
+      l .inv .2 ∙ rw (entries-next _ _ (l .t) (l .left) n, puts-append, b .ensures, meets m .0, meets m .1, h),
+    )
 
 same-length : tie.Need-same-length Inv-loop μ-loop
 same-length c = search needs

@@ -1,4 +1,4 @@
--- `code_refusals::kinds::is_known` meets its contract: a kind is from 1 to 30.
+-- `code_refusals::kinds::is_known` meets its contract: a kind is from 1 to the last.
 use Prim.Native.Nat.{_<_}
 use native.Mathlib.Omega.{arith}
 use borrow.Author.Tests.{lt-ltb}

@@ -4,6 +4,7 @@ use mathlib.Core.Path.{_≡_}
 use native.Mathlib.Omega.{arith}
 use lib.ListN.{length}
 use borrow.Author.Needs.{needs}
+use Rattle.base_queue.specs.Queues.{capacity}
 use Rattle.code_rules.specs.Orders.{keyOf}
 use Rattle.code_rules.proofs.Loops.{Climb, climb-starts, climb-stops, climb-goes, climb-ends}
 use Rattle.code_rules.proofs.tables.in_order.Statement.{statement}
@@ -21,7 +22,7 @@ size-requires c κs = search needs
 loop-holds : tie.Need-loop-holds Inv-loop μ-loop
 loop-holds c =
     let a = c .before .before .args in
-    let e : length (a .q .at) ≡ 64 = search needs in
+    let e : length (a .q .at) ≡ capacity = search needs in
     climb-starts _ (a .q) _ (c .size .ensures) e
 
 array-read-key-of : tie.Need-array-read-key-of Inv-loop μ-loop

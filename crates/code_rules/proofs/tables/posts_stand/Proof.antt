@@ -6,6 +6,7 @@ use native.Mathlib.Omega.{arith}
 use lib.ListN.{length}
 use borrow.Author.Needs.{needs}
 use Rattle.base_queue.specs.Queues.{items}
+use Rattle.spec_kernel.specs.Sizes.{messageCount}
 use Rattle.spec_kernel.specs.Records.{noMessage}
 use Rattle.spec_kernel.specs.Places.{isQueued}
 use Rattle.code_rules.proofs.Loops.{Stand, stand-refused, stand-starts, stand-stops, stand-goes, stand-ends}
@@ -13,12 +14,12 @@ use Rattle.code_rules.proofs.tables.posts_stand.Statement.{statement}
 use Rattle.code_rules.proofs.tables.posts_stand.Tie as tie
 
 abbrev Inv-loop : tie.InvT-loop
-Inv-loop q records m₀ m = Stand isQueued records (items q) 64 m
+Inv-loop q records m₀ m = Stand isQueued records (items q) messageCount m
 
 abbrev μ-loop : tie.MeasureT-loop
-μ-loop q records m₀ m = 64 - m
+μ-loop q records m₀ m = messageCount - m
 
-full : (c : tie.Start Inv-loop μ-loop) → length (c .args .t1) ≡ 64
+full : (c : tie.Start Inv-loop μ-loop) → length (c .args .t1) ≡ messageCount
 full c = search needs
 
 all-below-requires : tie.Need-all-below-requires Inv-loop μ-loop

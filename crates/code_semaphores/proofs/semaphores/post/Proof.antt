@@ -9,6 +9,7 @@ use lib.Seq.{set-getD}
 use borrow.Author.Tests.{eq-eqb, ne-eqb}
 use borrow.Author.Needs.{needs}
 use Rattle.base_queue.specs.Lists.{isEmpty}
+use Rattle.spec_kernel.specs.Sizes.{threadCount}
 use Rattle.spec_kernel.specs.Records.{noSemaphore}
 use Rattle.spec_kernel.specs.Places.{semaphoreQueue}
 use Rattle.code_kernel_find.proofs.OfHomes.{first-empty, first-head}
@@ -43,7 +44,7 @@ returns c k =
     let s = c .before .before .before .before .before .before .before .before .before in
     let p = s .args .w .threads in
     let f = c .before .before .before .before .first-at-home .ensures in
-    let e : length (p .records) ≡ 32 = sym (length-map (p .records) _) ∙ s .good .0 .1 .1 .0 .1 .1 .0 .1 .0 .1 in
+    let e : length (p .records) ≡ threadCount = sym (length-map (p .records) _) ∙ s .good .0 .1 .1 .0 .1 .1 .0 .1 .0 .1 in
     let z : semaphoreQueue (withWaiting (s .args .w) k) (s .args .i) ≡ [] =
     empty _ (sym (first-empty (p .records) e (p .places) (omega arith)) ∙ eq-eqb _ _ (sym f ∙ c .if1 .taken)) in
     rw (

@@ -4,6 +4,7 @@ use native.Mathlib.Omega.{arith}
 use lib.ListN.{length, length-map}
 use lib.Seq.{set-out}
 use borrow.Author.Needs.{needs}
+use Rattle.spec_kernel.specs.Sizes.{semaphoreCount}
 use Rattle.code_semaphores.proofs.semaphores.with_semaphore.Statement.{statement}
 use Rattle.code_semaphores.proofs.semaphores.with_semaphore.Tie as tie
 
@@ -19,7 +20,7 @@ returns c = search needs
 returns-2 : tie.Need-returns-2
 returns-2 c =
     let k = c .before .args .k in
-    let e : length (k .semaphores) ≡ 16 = sym (length-map (k .semaphores) _) ∙ c .before .good .0 .1 .1 .1 .0 .1 .0 .1 in
+    let e : length (k .semaphores) ≡ semaphoreCount = sym (length-map (k .semaphores) _) ∙ c .before .good .0 .1 .1 .1 .0 .1 .0 .1 in
     rw (set-out (k .semaphores) (c .before .args .i) (c .before .args .r) (omega arith))
 
 pub with-semaphore-spec : {M : Type 1} → statement M

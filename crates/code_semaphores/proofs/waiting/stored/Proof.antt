@@ -4,6 +4,7 @@ use native.Mathlib.Omega.{arith}
 use lib.ListN.{length, length-map}
 use lib.Seq.{set-out}
 use borrow.Author.Needs.{needs}
+use Rattle.spec_kernel.specs.Sizes.{semaphoreCount}
 use Rattle.code_semaphores.proofs.waiting.stored.Statement.{statement}
 use Rattle.code_semaphores.proofs.waiting.stored.Tie as tie
 
@@ -19,7 +20,7 @@ returns c = search needs
 returns-2 : tie.Need-returns-2
 returns-2 c =
     let w = c .before .args .w in
-    let e : length (w .semaphores) ≡ 16 = sym (length-map (w .semaphores) _) ∙ c .before .good .0 .1 .1 .1 .0 .1 .0 .1 in
+    let e : length (w .semaphores) ≡ semaphoreCount = sym (length-map (w .semaphores) _) ∙ c .before .good .0 .1 .1 .1 .0 .1 .0 .1 in
     rw (set-out (w .semaphores) (c .before .args .i) (c .before .args .r) (omega arith))
 
 pub stored-spec : {M : Type 1} → statement M

@@ -4,14 +4,14 @@ use mathlib.Core.Path.{_≡_, refl, sym, ap, _∙_}
 use mathlib.Core.Bool.{Bool, true, false, cond, _||_}
 use lib.Dec.{eqb}
 use mathlib.Core.Logic.{⊎-elim, inl, inr}
-use mathlib.Core.List.{List}
+use mathlib.Core.List.{List, []}
 use lib.ListN.{getD}
 use borrow.Author.Tests.{ne-eqb}
 use Rattle.base_queue.specs.Lists.{firstOf}
-use Rattle.spec_notes.specs.Frames.{nothing, sections, framesOf}
-use Rattle.spec_notes.specs.Back.{Sections}
+use Rattle.spec_notes.specs.Notes.{sectionCount}
+use Rattle.spec_notes.specs.Frames.{nothing, sections, sectionsAt, framesOf}
 use Rattle.code_notes_frame.specs.declared.frames.Decoded.{Decoded}
-use Rattle.code_notes_frame.specs.Meant.{partOf, sectionsMeant, meant}
+use Rattle.code_notes_frame.specs.Meant.{partOf, meant}
 use Rattle.try_entries.specs.Entries.{valueIn}
 use borrow.Author.Needs.{needs}
 use Rattle.try_entries.proofs.again.value_in.Statement.{statement}
@@ -23,20 +23,24 @@ same n false true d = refl
 same n false false true = refl
 same n false false false = refl
 
-abbrev note₀ : tie.After-f → List ℕ
+abbrev note₀ : tie.After-p → List ℕ
 note₀ c = c .before .before .before .before .args .note .now
 
-abbrev parts : tie.After-f → Sections
-parts c = sectionsMeant (c .f .given .0 .0) (note₀ c)
+abbrev parts : tie.After-p → List (List ℕ)
+parts c = sectionsAt sectionCount (partOf (c .p .given .0 .0) (note₀ c))
 
-framed : (c : tie.After-f) → framesOf (note₀ c) ≡ sections (parts c)
-framed c = sym (c .before .before .frames-of .ensures) ∙ ap (λ (d : Decoded). meant d (note₀ c)) (c .f .given .1)
+framed : (c : tie.After-p) → framesOf (note₀ c) ≡ sections (parts c)
+framed c = sym (c .before .before .frames-of .ensures) ∙ ap (λ (d : Decoded). meant d (note₀ c)) (c .p .given .1)
+
+section-in : (c : tie.After-part-of) (i : ℕ)
+    → getD (sectionsAt sectionCount (c .part-of .result .now)) i [] ≡ getD (parts (c .before .before)) i []
+section-in c i = ap (λ (s : List ℕ). getD (sectionsAt sectionCount s) i []) (c .part-of .ensures)
 
 frames-of-requires : tie.Need-frames-of-requires
 frames-of-requires c κs = search needs
 
-enum-known-f : tie.Need-enum-known-f
-enum-known-f c = search needs
+enum-known-p : tie.Need-enum-known-p
+enum-known-p c = search needs
 
 enum-told : tie.Need-enum-told
 enum-told c = search needs
@@ -49,49 +53,53 @@ returns c =
     sym (c .before .before .frames-of .ensures) ∙ ap (λ (d : Decoded). meant d note) (c .enum-told .given .1) in
     rw e (same 255 (eqb (getD note 0 0) 2) (eqb (getD note 0 0) 14) (eqb (getD note 0 0) 24 || eqb (getD note 0 0) 27))
 
+part-of-requires : tie.Need-part-of-requires
+part-of-requires c κs = search needs
+
 byte-at-requires : tie.Need-byte-at-requires
 byte-at-requires c κs = search needs
 
-part-of-requires : tie.Need-part-of-requires
-part-of-requires c κs = search needs
+section-of-requires : tie.Need-section-of-requires
+section-of-requires c κs = search needs
 
 first-of-requires : tie.Need-first-of-requires
 first-of-requires c κs = search needs
 
-part-of-requires-2 : tie.Need-part-of-requires-2
-part-of-requires-2 c κs = search needs
+section-of-requires-2 : tie.Need-section-of-requires-2
+section-of-requires-2 c κs = search needs
 
 first-of-requires-2 : tie.Need-first-of-requires-2
 first-of-requires-2 c κs = search needs
 
-part-of-requires-3 : tie.Need-part-of-requires-3
-part-of-requires-3 c κs = search needs
+section-of-requires-3 : tie.Need-section-of-requires-3
+section-of-requires-3 c κs = search needs
 
 first-of-requires-3 : tie.Need-first-of-requires-3
 first-of-requires-3 c κs = search needs
 
 returns-2 : tie.Need-returns-2
-unfolding valueIn sectionsMeant
+unfolding valueIn
 returns-2 c =
-    let f = c .before .before .before .before .before in
-    rw (framed f, sym (c .before .before .before .byte-at .ensures) ∙ c .before .before .match2 .keys1)
-    (c .first-of .ensures ∙ ap firstOf (c .before .part-of .ensures))
+    let s : tie.After-part-of = c .before .before .before .before in
+    rw (framed (s .before .before), sym (c .before .before .before .byte-at .ensures) ∙ c .before .before .match2 .keys1)
+    (c .first-of .ensures ∙ ap firstOf (c .before .section-of .ensures ∙ section-in s _))
 
 returns-3 : tie.Need-returns-3
-unfolding valueIn sectionsMeant
+unfolding valueIn
 returns-3 c =
-    let f = c .before .before .before .before .before in
-    rw (framed f, sym (c .before .before .before .byte-at .ensures) ∙ c .before .before .match2 .keys2)
-    (c .first-of2 .ensures ∙ ap firstOf (c .before .part-of2 .ensures))
+    let s : tie.After-part-of = c .before .before .before .before in
+    rw (framed (s .before .before), sym (c .before .before .before .byte-at .ensures) ∙ c .before .before .match2 .keys2)
+    (c .first-of2 .ensures ∙ ap firstOf (c .before .section-of2 .ensures ∙ section-in s _))
 
 returns-4 : tie.Need-returns-4
-unfolding valueIn sectionsMeant
+unfolding valueIn
 returns-4 c =
-    let f = c .before .before .before .before .before in
-    let r : c .first-of3 .result ≡ firstOf (partOf (c .before .before .before .before .before .f .given .0 .0 .messages) (note₀ f)) =
-    c .first-of3 .ensures ∙ ap firstOf (c .before .part-of3 .ensures) in
-    ⊎-elim (λ (e : c .before .before .before .byte-at .result ≡ 24). rw (framed f, sym (c .before .before .before .byte-at .ensures) ∙ e) r)
-    (λ (e : c .before .before .before .byte-at .result ≡ 27). rw (framed f, sym (c .before .before .before .byte-at .ensures) ∙ e) r)
+    let s : tie.After-part-of = c .before .before .before .before in
+    let f = s .before .before in
+    let b = c .before .before .before .byte-at in
+    let r : c .first-of3 .result ≡ firstOf (getD (parts f) 4 []) =
+    c .first-of3 .ensures ∙ ap firstOf (c .before .section-of3 .ensures ∙ section-in s _) in
+    ⊎-elim (λ (e : b .result ≡ 24). rw (framed f, sym (b .ensures) ∙ e) r) (λ (e : b .result ≡ 27). rw (framed f, sym (b .ensures) ∙ e) r)
     (c .before .before .match2 .keys3)
 
 returns-5 : tie.Need-returns-5
@@ -112,15 +120,16 @@ value-in-spec =
     tie.close
     (tie.spec
     frames-of-requires
-    enum-known-f
+    enum-known-p
     enum-told
     returns
-    byte-at-requires
     part-of-requires
+    byte-at-requires
+    section-of-requires
     first-of-requires
-    part-of-requires-2
+    section-of-requires-2
     first-of-requires-2
-    part-of-requires-3
+    section-of-requires-3
     first-of-requires-3
     returns-2
     returns-3

@@ -1,0 +1,14 @@
+// What a call needs of the state, looked up once.
+use spec_kernel::records::Message;
+use spec_kernel::records::Semaphore;
+
+// Of what a call names: the semaphore's and the message's record, whether the thread is live and whether the event is TRUE; the first
+// that waits for the semaphore; and the id that comes back. The bytes come last, so that it takes forty.
+pub struct Named {
+    pub semaphore: Semaphore,
+    pub message: Message,
+    pub thread: bool,
+    pub truth: bool,
+    pub waiter: u8,
+    pub found: u8,
+}
