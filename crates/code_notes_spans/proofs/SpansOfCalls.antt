@@ -33,7 +33,7 @@ use Rattle.spec_refusals.specs.Refusals.{is, numberOf}
 use Rattle.spec_moves.specs.States.{moveThread, withSemaphore, withBits, asByte, scheduled}
 use Rattle.spec_threads.specs.Threads.{block, wake, freeMessages, createThread, destroyThread, setPriority, resetPriority, yielded, sleep}
 use Rattle.spec_regions.specs.Regions.{pushUnscheduled, popUnscheduled, popAllUnscheduled, pushCritical, popCritical, popAllCritical}
-use Rattle.spec_kernel.specs.WordsOfLaws.{OtherThreads, OtherMessages}
+use Rattle.spec_laws.specs.Words.{OtherThreads, OtherMessages}
 use Rattle.spec_semaphores.specs.Semaphores.{postTo, post, createSemaphore, destroySemaphore, makePeriodic, removePeriodic}
 use Rattle.spec_semaphores.specs.Semaphores.{pendSemaphore, postSemaphore}
 use Rattle.spec_events.specs.Events.{workedOut, loadEvent, pendEvent, setBit, clearBit}
@@ -41,7 +41,7 @@ use Rattle.spec_messages.specs.Messages.{createMessage, destroyMessage, handOve
 use Rattle.spec_time.specs.Time.{tick}
 use Rattle.spec_effects.specs.Effects.{effect}
 use Rattle.proof_rules.proofs.Accepted.{Accepted, accepted, thread-named}
-use Rattle.proof_rules.proofs.Effects.{_▸_, end, effect-of}
+use Rattle.spec_effects.proofs.ByKind.{_▸_, end, effect-of}
 use Rattle.spec_notes.specs.Touched.{movesInPlace, touchedThread, touchedSemaphore, touchedEvent, touchedMessage}
 use Rattle.spec_notes.specs.Sections.{threadEntry, threadEntries, threadsSection, semaphoreEntry, semaphoreEntries, semaphoresSection}
 use Rattle.spec_notes.specs.Sections.{eventEntry, eventEntries, bitNoted, eventsSection, messageEntry, messageEntries, messagesSection}

@@ -12,5 +12,3 @@ pub mod Semaphores
 pub mod OfTime
 pub mod Regions
 pub mod Threads
-pub mod Effects
-pub mod Kept

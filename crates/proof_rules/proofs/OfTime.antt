@@ -22,6 +22,7 @@ use Rattle.spec_moves.specs.States.{withSemaphore}
 use Rattle.spec_threads.specs.Threads.{wake}
 use Rattle.spec_semaphores.specs.Semaphores.{raised, withTicks, postTo, post}
 use Rattle.spec_time.specs.Time.{later, reasonAt, aged, timePasses, pulse, pulseFrom, tick}
+use Rattle.spec_time.proofs.LawsOfTime.{passed, turnOf}
 use Rattle.proof_rules.proofs.Core.{Fits, FineThread, Core, untrue, each-semaphore, semaphore-core, scheduler-core}
 use Rattle.proof_rules.proofs.Ends.{Runs, Good, Before}
 use Rattle.proof_rules.proofs.Accepted.{Accepted}
@@ -110,11 +111,21 @@ pulses-keep C i (suc n) =
     let (D′, R′, U′) = pulses-keep D (suc i) n in
     (D′, λ r. R′ (R r), U′ ∙ U)
 
+-- what the time makes of each thread
+becomes : {k : Kernel} → Before k → (t : ℕ) → Becomes (k .semaphores) (untrue k) (thread k t) (threadIn (timePasses (threadsOf k)) t)
+becomes {k} B t = rw (passes-record (B .core .standing) t) (passes-becomes (k .semaphores) (untrue k) (thread k t) (B .core .threads t))
+
+-- the time has passed for the threads, and then i semaphores have had their turn
+turns-keep : {k : Kernel} → Before k → (i : ℕ) → Keeps (untrue k) (passed k) (turnOf k i)
+turns-keep {k} B i =
+    let C = scheduler-core (B .core) (later (k .uptime)) (k .unscheduled) (k .critical) (k .runner) in
+    pulses-keep (threads-core C (passes-standing (B .core .standing)) (becomes B)) 0 i
+
+pub turn-core : {k : Kernel} → Before k → (i : ℕ) → Core (untrue k) (turnOf k i)
+turn-core B i = turns-keep B i .0
+
 pub kind-1 : {k : Kernel} → Before k → {c : Call} → Accepted k c → c .kind ≡ 1 → Good (tick k c)
 unfolding tick
 kind-1 {k} B A _ =
-    let C = scheduler-core (B .core) (later (k .uptime)) (k .unscheduled) (k .critical) (k .runner) in
-    let becomes : (t : ℕ) → Becomes (k .semaphores) (untrue k) (thread k t) (threadIn (timePasses (threadsOf k)) t) =
-    λ t. rw (passes-record (B .core .standing) t) (passes-becomes (k .semaphores) (untrue k) (thread k t) (B .core .threads t)) in
-    let (D, R, U) = pulses-keep (threads-core C (passes-standing (B .core .standing)) becomes) 0 semaphoreCount in
-    record { core = rw U D; runs = R (λ b. becomes (k .runner) .ready (B .runs b)) }
+    let (D, R, U) = turns-keep B semaphoreCount in
+    record { core = rw U D; runs = R (λ b. becomes B (k .runner) .ready (B .runs b)) }

@@ -18,7 +18,7 @@ use Rattle.spec_refusals.proofs.Applies.{and-right, lacks, lacks-head}
 use Rattle.spec_refusals.proofs.TableOrder.{given-exactly, accepted-exactly as none-exactly}
 use Rattle.spec_moves.specs.States.{scheduled}
 use Rattle.spec_effects.specs.Effects.{effect}
-use Rattle.proof_rules.proofs.Kept.{rules-kept}
+use Rattle.spec_effects.proofs.RulesKept.{rules-kept}
 use Rattle.spec_answers.specs.Steps.{Stepped, accepted, refused, step, called}
 use Rattle.spec_answers.specs.Promises.{BrokenIsRefused, BrokenIsSame, RefusedExactly, AcceptedExactly, RefusalChangesNothing}
 use Rattle.spec_answers.specs.Promises.{RulesAreKept, RunnerIsAnswered, FirstReadyRuns, RunnerStaysInRegion, OneResult}

@@ -1,2 +1,4 @@
 pub mod ByKind
-pub mod LawsOfKinds
+pub mod AtCalls
+pub mod RulesKept
+pub mod LawsKept

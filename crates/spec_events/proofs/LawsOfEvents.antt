@@ -10,7 +10,7 @@ use lib.Seq.{getD-set-same, getD-set-other}
 use borrow.Author.Tests.{eqb-true, eqb-false, ltb-true, ltb-false, lt-ltb}
 use borrow.Table.Steps.{cases}
 use Rattle.base_queue.proofs.Lists.{count-append}
-use Rattle.base_bits.specs.Words.{bitAt, withBit, withoutBit}
+use Rattle.base_bits.specs.Words.{withBit, withoutBit}
 use Rattle.base_bits.proofs.Laws.{bit-same, bit-gone, bit-other, bit-other-without}
 use Rattle.base_queue.specs.Lists.{keep, count}
 use Rattle.base_queue.proofs.Counts.{keep-all}
@@ -31,45 +31,12 @@ use Rattle.spec_calls.specs.declared.call.Call.{Call}
 use Rattle.spec_moves.specs.States.{withEvents, each}
 use Rattle.spec_events.specs.Events.{workOut, workOutFrom, workedOut, loadEvent, pendEvent, setBit, clearBit}
 use Rattle.spec_threads.specs.Threads.{wakeIn, wokenIn}
-use Rattle.spec_kernel.specs.WordsOfLaws.{Runnable, readied, SameMessages, SameScheduler, OnlyThreads}
-use Rattle.spec_threads.proofs.LawsOfLists.{withoutAll, keep-none}
+use Rattle.spec_laws.specs.Words.{Runnable, readied, SameMessages, SameScheduler, OnlyThreads}
+use Rattle.spec_threads.proofs.LawsOfLists.{keep-none}
 use Rattle.spec_threads.proofs.LawsOfHomes.{line-home, line-absent, line-once, line-stopped}
 use Rattle.spec_threads.proofs.LawsOfWaking.{Called, AllWoken, each-woken}
-use Rattle.spec_threads.proofs.LawsOfBlocking.{Blocked, block-blocks, block-only}
-
--- the waiters of those of n events from i on that are TRUE: in id order, and of each in queue order
-unfoldable pub waitersFrom : (ℕ → Bool) → Threads → ℕ → ℕ → List ℕ
-waitersFrom met p i zero = []
-waitersFrom met p i (suc n) = cond (met i) (atHomeIn p (home ofEvents i)) [] ++ waitersFrom met p (suc i) n
-
--- event i is TRUE
-abbrev pub isMet : Kernel → ℕ → Bool
-isMet k i = isTrue (k .bits) (event k i)
-
--- who wakes between k and k′: the waiters of k of the events that are TRUE in k′
-abbrev pub waiters : Kernel → Kernel → List ℕ
-waiters k k′ = waitersFrom (isMet k′) (threadsOf k) 0 eventCount
-
--- The events of k′ are worked out, the lowest id first: all that waited for a TRUE one wake, as they stood [01, calls: Event 5].
-pub record WorkedOut (k k′ : Kernel) : Type 0 where
-  -- nobody waits for a TRUE event
-  pub nobody : (i : ℕ) → i < eventCount → isMet k′ i ≡ true → eventQueue k′ i ≡ []
-  -- the queues of the other events, and of semaphores, are as they were
-  pub events : (i : ℕ) → i < eventCount → isMet k′ i ≡ false → eventQueue k′ i ≡ eventQueue k i
-  pub semaphores : (i : ℕ) → i < semaphoreCount → semaphoreQueue k′ i ≡ semaphoreQueue k i
-  -- each ready list gets the waiters of its priority, in id order of their events, and of each event in queue order
-  pub lists : (p : ℕ) → p < 256 → readyList k′ p ≡ readyList k p ++ keep (λ t. eqb (thread k t .priority) p) (waiters k k′)
-  -- they leave the time queue, where the others keep their order
-  pub time : timeQueue k′ ≡ withoutAll (waiters k k′) (timeQueue k)
-  -- who stood in the queue of a TRUE event is awake, as met
-  pub woken : (t i : ℕ) → i < eventCount → isMet k′ i ≡ true → 0 < count t (eventQueue k i)
-      → thread k′ t ≡ readied Wake.Met (thread k t .reply) (thread k t)
-  -- and nobody else's record changes
-  pub others : (t : ℕ) → ((i : ℕ) → i < eventCount → isMet k′ i ≡ true → count t (eventQueue k i) ≡ 0) → thread k′ t ≡ thread k t
-  -- nothing else but events and bits does
-  pub counts : k′ .semaphores ≡ k .semaphores
-  pub messages : SameMessages k k′
-  pub scheduler : SameScheduler k k′
+use Rattle.spec_threads.proofs.LawsOfBlocking.{block-blocks}
+use Rattle.spec_laws.specs.OfEvents.{isMet, waitersFrom, WorkedOut, LoadedEvent, PendedEvent, BitIs}
 
 -- every priority is a byte
 abbrev pub Bytes : Threads → Type 0
@@ -79,6 +46,10 @@ Bytes p = (t : ℕ) → threadIn p t .priority < 256
 each-append : (f : ℕ → Threads → Threads) (a b : List ℕ) (p : Threads) → each f (a ++ b) p ≡ each f b (each f a p)
 each-append f [] b p = refl
 each-append f (x ∷ a) b p = each-append f a b (f x p)
+
+-- the events' queues, by id
+abbrev queues : Threads → ℕ → List ℕ
+queues p i = atHomeIn p (home ofEvents i)
 
 -- each wakes as met
 abbrev asMet : Thread → Wake
@@ -95,7 +66,7 @@ record Waits (met : ℕ → Bool) (p : Threads) (i n t : ℕ) : Type 0 where
 
 module _ (met : ℕ → Bool) {p : Threads} (S : Standing p) (t : ℕ) where
   -- each waits for a TRUE one
-  waiter-waits : (i n : ℕ) → 0 < count t (waitersFrom met p i n) → Waits met p i n t
+  waiter-waits : (i n : ℕ) → 0 < count t (waitersFrom met (queues p) i n) → Waits met p i n t
   unfolding waitersFrom
   waiter-waits i zero c = absurd (omega arith)
   waiter-waits i (suc n) c =
@@ -117,7 +88,7 @@ module _ (met : ℕ → Bool) {p : Threads} (S : Standing p) (t : ℕ) where
 
   -- who waits for one is among them
   waits-waiter : (i n j : ℕ) → i ≤ j → j < i + n → met j ≡ true → 0 < count t (atHomeIn p (home ofEvents j))
-      → 0 < count t (waitersFrom met p i n)
+      → 0 < count t (waitersFrom met (queues p) i n)
   unfolding waitersFrom
   waits-waiter i zero j a b m c = absurd (omega arith)
   waits-waiter i (suc n) j a b m c =
@@ -127,7 +98,7 @@ module _ (met : ℕ → Bool) {p : Threads} (S : Standing p) (t : ℕ) where
       (λ e. let r = waits-waiter (suc i) n j (omega (arith, eqb-false)) (omega arith) m c in omega arith))
 
   -- once, as who waits has one home
-  waiter-once : (i n : ℕ) → count t (waitersFrom met p i n) ≤ 1
+  waiter-once : (i n : ℕ) → count t (waitersFrom met (queues p) i n) ≤ 1
   unfolding waitersFrom
   waiter-once i zero = omega arith
   waiter-once i (suc n) =
@@ -136,7 +107,7 @@ module _ (met : ℕ → Bool) {p : Threads} (S : Standing p) (t : ℕ) where
       rw count-append
       (cases (met i)
       (λ m. rw m
-      (cases (ltb 0 (count t (waitersFrom met p (suc i) n)))
+      (cases (ltb 0 (count t (waitersFrom met (queues p) (suc i) n)))
       (λ e. let W = waiter-waits (suc i) n (ltb-true 0 _ e) in
       let z = line-absent S t (home ofEvents i) (λ z. omega (arith, W .from, line-home S t (home ofEvents (W .event)) (W .there))) in
       omega arith)
@@ -153,7 +124,7 @@ module _ (events : List Event) (bits : ℕ) where
     line-called : (i : ℕ) → Called p (atHomeIn p (home ofEvents i))
     line-called i t c = (omega (arith, line-once S t (home ofEvents i)), line-stopped S t (B t) (omega arith) c)
 
-    waiters-called : (i n : ℕ) → Called p (waitersFrom met p i n)
+    waiters-called : (i n : ℕ) → Called p (waitersFrom met (queues p) i n)
     waiters-called i n t c =
         let W = waiter-waits met S t i n c in
         (omega (arith, waiter-once met S t i n), line-stopped S t (B t) (omega arith) (W .there))
@@ -179,13 +150,13 @@ module _ (events : List Event) (bits : ℕ) where
         ∙ keep-all (atHomeIn p (home ofEvents j))
         (λ t c. rw (line-absent S t (home ofEvents i) (λ z. omega (arith, line-home S t (home ofEvents j) c))))
 
-    waiters-later : (i j n : ℕ) → i < j → waitersFrom met (wokenIn (home ofEvents i) p) j n ≡ waitersFrom met p j n
+    waiters-later : (i j n : ℕ) → i < j → waitersFrom met (queues (wokenIn (home ofEvents i) p)) j n ≡ waitersFrom met (queues p) j n
     unfolding waitersFrom
     waiters-later i j zero b = refl
     waiters-later i j (suc n) b = rw (line-later i j b, waiters-later i (suc j) n (omega arith))
 
   -- so the events wake their waiters, one after the other
-  outs-wake : (i n : ℕ) {p : Threads} → Standing p → Bytes p → workOutFrom events bits i n p ≡ each wakeIn (waitersFrom met p i n) p
+  outs-wake : (i n : ℕ) {p : Threads} → Standing p → Bytes p → workOutFrom events bits i n p ≡ each wakeIn (waitersFrom met (queues p) i n) p
   unfolding workOutFrom workOut wokenIn waitersFrom
   outs-wake i zero S B = refl
   outs-wake i (suc n) {p} S B =
@@ -200,7 +171,7 @@ module _ (events : List Event) (bits : ℕ) where
     after = workedOut (withEvents events bits k)
 
     abbrev called : List ℕ
-    called = waitersFrom met (threadsOf k) 0 eventCount
+    called = waitersFrom met (eventQueue k) 0 eventCount
 
     all-woken : AllWoken asMet called (threadsOf k) (threadsOf after)
     unfolding workedOut wakeIn
@@ -239,75 +210,42 @@ module _ (events : List Event) (bits : ℕ) where
       scheduler = record { uptime = refl; unscheduled = refl; critical = refl; runner = refl };
     }
 
--- The definition does just that [01, calls: Event 5].
-pub worked-out : (k : Kernel) → Standing (threadsOf k) → Bytes (threadsOf k) → WorkedOut k (workedOut k)
-worked-out k S B = works-out (k .events) (k .bits) k S B
-
 -- ---- the calls
-module _ (k : Kernel) (c : Call) where
-  -- set: bit a is set, and no other bit or event changes; clear likewise
-  pub set-sets : c .a < bitCount → bitAt (setBit k c .bits) (c .a) ≡ true
+module _ (k : Kernel) (c : Call) (S : Standing (threadsOf k)) (B : Bytes (threadsOf k)) where
+  -- A bit is set or cleared, and no other bit or event changes; then all events are worked out [01, calls: Event 5].
+  pub set-sets : c .a < bitCount → BitIs (c .a) true k (setBit k c)
   unfolding setBit workedOut
-  set-sets b = bit-same (k .bits) (c .a) b
+  set-sets b = record {
+    bit = bit-same (k .bits) (c .a) b;
+    others = λ i ne. bit-other (k .bits) (c .a) i ne;
+    events = refl;
+    worked = works-out (k .events) (withBit (k .bits) (c .a)) k S B;
+  }
 
-  pub set-others : (i : ℕ) → (c .a ≡ i → ⊥) → bitAt (setBit k c .bits) i ≡ bitAt (k .bits) i
-  unfolding setBit workedOut
-  set-others i ne = bit-other (k .bits) (c .a) i ne
-
-  pub set-events : setBit k c .events ≡ k .events
-  unfolding setBit workedOut
-  set-events = refl
-
-  pub clear-clears : bitAt (clearBit k c .bits) (c .a) ≡ false
+  pub clear-clears : BitIs (c .a) false k (clearBit k c)
   unfolding clearBit workedOut
-  clear-clears = bit-gone (k .bits) (c .a)
+  clear-clears = record {
+    bit = bit-gone (k .bits) (c .a);
+    others = λ i ne. bit-other-without (k .bits) (c .a) i ne;
+    events = refl;
+    worked = works-out (k .events) (withoutBit (k .bits) (c .a)) k S B;
+  }
 
-  pub clear-others : (i : ℕ) → (c .a ≡ i → ⊥) → bitAt (clearBit k c .bits) i ≡ bitAt (k .bits) i
-  unfolding clearBit workedOut
-  clear-others i ne = bit-other-without (k .bits) (c .a) i ne
-
-  pub clear-events : clearBit k c .events ≡ k .events
-  unfolding clearBit workedOut
-  clear-events = refl
-
-  -- load: event a has the mode, mask and values of the call, and no other event or bit changes
-  pub load-loads : c .a < length (k .events) → event (loadEvent k c) (c .a) ≡ record { any = eqb (c .b) 1; mask = c .c; values = c .d }
+  -- Event a has the mode, mask and values of the call, and no other event or bit changes.
+  pub load-loads : c .a < length (k .events) → LoadedEvent (c .a) (eqb (c .b) 1) (c .c) (c .d) k (loadEvent k c)
   unfolding loadEvent workedOut
-  load-loads b = getD-set-same (k .events) (c .a) _ noEvent b
+  load-loads b = record {
+    itself = getD-set-same (k .events) (c .a) _ noEvent b;
+    others = λ i ne. getD-set-other (k .events) (c .a) i _ noEvent ne;
+    bits = refl;
+    worked = works-out (set (k .events) (c .a) _) (k .bits) k S B;
+  }
 
-  pub load-others : (i : ℕ) → (i ≡ c .a → ⊥) → event (loadEvent k c) i ≡ event k i
-  unfolding loadEvent workedOut
-  load-others i ne = getD-set-other (k .events) (c .a) i _ noEvent ne
-
-  pub load-bits : loadEvent k c .bits ≡ k .bits
-  unfolding loadEvent workedOut
-  load-bits = refl
-
-  -- And it is done at once by a set, a clear and a load [01, calls: Event 5].
-  module _ (S : Standing (threadsOf k)) (B : Bytes (threadsOf k)) where
-    pub set-works-out : WorkedOut k (setBit k c)
-    unfolding setBit
-    set-works-out = works-out (k .events) (withBit (k .bits) (c .a)) k S B
-
-    pub clear-works-out : WorkedOut k (clearBit k c)
-    unfolding clearBit
-    clear-works-out = works-out (k .events) (withoutBit (k .bits) (c .a)) k S B
-
-    pub load-works-out : WorkedOut k (loadEvent k c)
-    unfolding loadEvent
-    load-works-out = works-out (set (k .events) (c .a) _) (k .bits) k S B
-
-  -- A pend on a TRUE event changes nothing; else the caller waits behind its equals [01, calls: Event 4; calls: Blocking 1].
-  pub pend-event-passes : isMet k (c .a) ≡ true → pendEvent k c ≡ k
-  unfolding pendEvent
-  pend-event-passes m = rw m
-
-  module _ (m : isMet k (c .a) ≡ false) where
-    pub pend-event-blocks : Standing (threadsOf k) → Runnable (thread k (k .runner))
-        → Blocked (ForEvent (c .a)) (c .c) (home ofEvents (c .a)) (k .runner) k (pendEvent k c)
-    unfolding pendEvent
-    pend-event-blocks S R = rw m (block-blocks k S R (ForEvent (c .a)) (c .c) refl (omega arith))
-
-    pub pend-event-leaves : OnlyThreads k (pendEvent k c)
-    unfolding pendEvent
-    pend-event-leaves = rw m (block-only (ForEvent (c .a)) (c .c) k)
+-- A pend on a TRUE event changes nothing; else the caller waits behind its equals [01, calls: Event 4; calls: Blocking 1].
+pub pend-event-pends : (k : Kernel) (c : Call) → Standing (threadsOf k) → Runnable (thread k (k .runner))
+    → PendedEvent (c .a) (c .c) k (pendEvent k c)
+unfolding pendEvent
+pend-event-pends k c S R = record {
+  passes = λ m. rw m;
+  blocks = λ m. rw m (block-blocks k S R (ForEvent (c .a)) (c .c) refl (omega arith));
+}

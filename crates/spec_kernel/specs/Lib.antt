@@ -6,4 +6,3 @@ pub mod Channels
 pub mod Free
 pub mod Runner
 pub mod Truth
-pub mod WordsOfLaws

@@ -1,4 +1,4 @@
--- Messages: post and pend.
+-- Messages: pended and posted, made and unmade, as spec_laws says it.
 use mathlib.Core.Path.{_≡_, refl, sym, _∙_}
 use mathlib.Core.Bool.{true, false, false≢true, and-true, and-false, and-self, and-eq-true-iff}
 use mathlib.Core.List.{List, [], _∷_, _++_}
@@ -18,7 +18,8 @@ use Rattle.spec_kernel.specs.declared.records.Wake.{Wake}
 use Rattle.spec_kernel.specs.declared.records.Message.{Message}
 use Rattle.spec_kernel.specs.declared.records.Kernel.{Kernel}
 use Rattle.spec_kernel.specs.Sizes.{messageCount}
-use Rattle.spec_kernel.specs.Records.{thread, message}
+use Rattle.spec_kernel.specs.Records.{thread, message, noMessage}
+use Rattle.spec_kernel.specs.Free.{freeMessage}
 use Rattle.spec_kernel.specs.Conditions.{readyFor, masks, awaits}
 use Rattle.spec_kernel.specs.Places.{nowhere, isQueued, streamOf, onChannel, channel}
 use Rattle.spec_moves.specs.Standing.{threadsOf, postsOf, Standing, Filed}
@@ -26,12 +27,13 @@ use Rattle.spec_moves.proofs.Posts.{repost-same, repost-other, repost-joins-cha
 use Rattle.spec_kernel.specs.Channels.{isFor, firstFor, nextMessage}
 use Rattle.spec_calls.specs.declared.call.Call.{Call}
 use Rattle.spec_moves.specs.States.{moveMessage}
-use Rattle.spec_messages.specs.Messages.{handOver, postMessage, receive, pendMessage}
-use Rattle.spec_kernel.specs.WordsOfLaws.{Stopped, Runnable, handed, SameEvents, SameScheduler, OnlyThreads, OnlyMessages, OtherMessages}
+use Rattle.spec_messages.specs.Messages.{createMessage, destroyMessage, handOver, postMessage, receive, pendMessage}
+use Rattle.spec_laws.specs.Words.{Stopped, Runnable, handed, OnlyMessages}
 use Rattle.spec_threads.proofs.LawsOfLists.{keep-once, keep-missing, keep-absent, without-first}
 use Rattle.spec_threads.proofs.LawsOfHomes.{message-id, posted-once, posted-live}
-use Rattle.spec_threads.proofs.LawsOfWaking.{Woken, move-wakes}
-use Rattle.spec_threads.proofs.LawsOfBlocking.{Blocked, block-blocks, block-only}
+use Rattle.spec_threads.proofs.LawsOfWaking.{move-wakes}
+use Rattle.spec_threads.proofs.LawsOfBlocking.{block-blocks}
+use Rattle.spec_laws.specs.OfMessages.{MadeMessage, Queued, HandedOver, PostedMessage, Taken, PendedMessage}
 
 -- ---- which message pend takes
 module _ (k : Kernel) (t mask : ℕ) where
@@ -78,7 +80,7 @@ module _ (k : Kernel) (t mask : ℕ) where
   -- Of the channels asked for, the lowest that has any, and there the one that came first [01, calls: Message 3].
   module _ (F : Filed (postsOf k)) (c m : ℕ) (l : List ℕ) (e : masks mask c ≡ true) (oldest : channel k t c ≡ m ∷ l)
       (lowest : (d : ℕ) → d < c → masks mask d ≡ true → channel k t d ≡ []) where
-    pub next-oldest : firstFor (k .messages) (k .posted) t mask ≡ m
+    next-oldest : firstFor (k .messages) (k .posted) t mask ≡ m
     unfolding firstFor streamOf
     next-oldest = go mine refl
       where
@@ -136,23 +138,14 @@ file-only m r k = record {
 }
 
 -- ---- pend
--- The caller t takes message m, the oldest of its channel c, which has l behind it.
-pub record Taken (m t c : ℕ) (l : List ℕ) (k k′ : Kernel) : Type 0 where
-  -- Whoever receives it holds it: it is out of its channel, and every other channel is as it was [01, state 6.3].
-  pub rest : channel k′ t c ≡ l
-  pub channels : (u d : ℕ) → 0 < d → (u ≡ t → d ≡ c → ⊥) → channel k′ u d ≡ channel k u d
-  pub itself : message k′ m ≡ handed t (message k m .sender) 0 (message k m)
-  pub others : OtherMessages m k k′
-  pub only : OnlyMessages k k′
-
 module _ (k : Kernel) (F : Filed (postsOf k)) (call : Call) where
   module _ (c m : ℕ) (l : List ℕ) (e : masks (call .b) c ≡ true) (oldest : channel k (k .runner) c ≡ m ∷ l)
       (lowest : (d : ℕ) → d < c → masks (call .b) d ≡ true → channel k (k .runner) d ≡ []) where
     -- the value that comes back
-    pub pend-value : nextMessage k (call .b) ≡ m
+    pend-value : nextMessage k (call .b) ≡ m
     pend-value = next-oldest k (k .runner) (call .b) F c m l e oldest lowest
 
-    pub pend-takes-oldest : Taken m (k .runner) c l k (pendMessage k call)
+    pend-takes-oldest : Taken m (k .runner) c l k (pendMessage k call)
     unfolding pendMessage receive
     pend-takes-oldest =
         let t = k .runner in
@@ -173,39 +166,18 @@ module _ (k : Kernel) (F : Filed (postsOf k)) (call : Call) where
           only = file-only m r k;
         })
 
-  -- With none on any channel asked for, the caller blocks [01, calls: Blocking 1].
-  module _ (none : (d : ℕ) → masks (call .b) d ≡ true → channel k (k .runner) d ≡ []) where
-    pub pend-message-blocks : Standing (threadsOf k) → Runnable (thread k (k .runner))
-        → Blocked (ForMessage (call .b)) (call .c) nowhere (k .runner) k (pendMessage k call)
-    unfolding pendMessage
-    pend-message-blocks S R =
-        rw (next-none k (k .runner) (call .b) none) (block-blocks k S R (ForMessage (call .b)) (call .c) refl (omega arith))
-
-    pub pend-message-leaves : OnlyThreads k (pendMessage k call)
-    unfolding pendMessage
-    pend-message-leaves = rw (next-none k (k .runner) (call .b) none) (block-only (ForMessage (call .b)) (call .c) k)
+-- With none on any channel asked for, the caller blocks [01, calls: Blocking 1].
+pub pend-message-pends : (k : Kernel) (call : Call) → Filed (postsOf k) → Standing (threadsOf k) → Runnable (thread k (k .runner))
+    → PendedMessage (call .b) (call .c) (nextMessage k (call .b)) k (pendMessage k call)
+unfolding pendMessage
+pend-message-pends k call F S R = record {
+  takes = λ c m l e oldest lowest. (pend-value k F call c m l e oldest lowest, pend-takes-oldest k F call c m l e oldest lowest);
+  blocks = λ none.
+      let z = next-none k (k .runner) (call .b) none in
+      (z, rw z (block-blocks k S R (ForMessage (call .b)) (call .c) refl (omega arith)));
+}
 
 -- ---- post
--- Message m is posted to channel c of thread t: it belongs to t now, and stands last in that channel [01, calls: Message 2].
-pub record Posted (m t c : ℕ) (k k′ : Kernel) : Type 0 where
-  pub last : channel k′ t c ≡ channel k t c ++ m ∷ []
-  pub channels : (u d : ℕ) → (u ≡ t → d ≡ c → ⊥) → channel k′ u d ≡ channel k u d
-  -- its sender is the caller, the last poster
-  pub itself : message k′ m ≡ handed t (k .runner) c (message k m)
-  pub others : OtherMessages m k k′
-  pub only : OnlyMessages k k′
-
--- Message m is posted to thread t, which waits for it: t gets it there and then, as its reply, and wakes [01, calls: Message 4].
-pub record HandedOver (m t : ℕ) (k k′ : Kernel) : Type 0 where
-  pub woken : Woken Wake.Met m t k k′
-  -- the message is held by the recipient, and no channel changes
-  pub itself : message k′ m ≡ handed t (k .runner) 0 (message k m)
-  pub channels : (u d : ℕ) → 0 < d → channel k′ u d ≡ channel k u d
-  pub others : OtherMessages m k k′
-  pub semaphores : k′ .semaphores ≡ k .semaphores
-  pub events : SameEvents k k′
-  pub scheduler : SameScheduler k k′
-
 -- who awaits a message isn't ready
 awaits-stopped : (condition : Condition) (c : ℕ) → awaits condition c ≡ true → readyFor condition ≡ false
 awaits-stopped Ready c e = absurd (false≢true e)
@@ -223,8 +195,8 @@ module _ (k : Kernel) (F : Filed (postsOf k)) (call : Call) (live : message k (c
   id : m < messageCount
   id = message-id F m live
 
-  pub post-appends : 0 < call .c → awaits (thread k (call .b) .condition) (call .c) ≡ false
-      → Posted m (call .b) (call .c) k (postMessage k call)
+  post-appends : 0 < call .c → awaits (thread k (call .b) .condition) (call .c) ≡ false
+      → Queued m (call .b) (call .c) k (postMessage k call)
   unfolding postMessage
   post-appends some unawaited =
       let r = handed (call .b) (k .runner) (call .c) (message k m) in
@@ -244,7 +216,7 @@ module _ (k : Kernel) (F : Filed (postsOf k)) (call : Call) (live : message k (c
     recipient : Stopped (thread k (call .b))
     recipient = record { live = there; stopped = rw (there, awaits-stopped (thread k (call .b) .condition) (call .c) awaited); byte = byte }
 
-    pub post-hands-over : HandedOver m (call .b) k (postMessage k call)
+    post-hands-over : HandedOver m (call .b) k (postMessage k call)
     unfolding postMessage handOver
     post-hands-over =
         let r = handed (call .b) (k .runner) 0 (message k m) in
@@ -258,3 +230,32 @@ module _ (k : Kernel) (F : Filed (postsOf k)) (call : Call) (live : message k (c
           events = record { records = refl; bits = refl };
           scheduler = record { uptime = refl; unscheduled = refl; critical = refl; runner = refl };
         })
+
+  -- handed over where it is awaited, else last in its channel [01, calls: Message 2, 4]
+  pub post-message-posts : Standing (threadsOf k) → thread k (call .b) .live ≡ true → thread k (call .b) .priority < 256 → 0 < call .c
+      → PostedMessage (call .a) (call .b) (call .c) k (postMessage k call)
+  post-message-posts S there byte some = record { handed = post-hands-over S there byte; queued = post-appends some }
+
+-- ---- create and destroy: a message that is held before and after gets a record, and no channel changes
+module _ (k : Kernel) (F : Filed (postsOf k)) where
+  make-message : (m : ℕ) (r : Message) → m < messageCount → isQueued (message k m) ≡ false → r .channel ≡ 0
+      → MadeMessage m r k (moveMessage m r k)
+  make-message m r b held h = record {
+    made = repost-same (postsOf k) m r (F .count) b;
+    others = λ u ne. repost-other (postsOf k) m r ne;
+    channels = λ u d s. held-leaves k F m b r h u d s ∙ held-absent k F m held u d;
+    only = file-only m r k;
+  }
+
+  module _ (c : Call) where
+    pub create-message-makes : freeMessage k < messageCount → message k (freeMessage k) .live ≡ false
+        → MadeMessage (freeMessage k)
+        (record { live = true; owner = k .runner; sender = k .runner; kind = c .b; size = c .c; address = c .d; channel = 0 }) k
+        (createMessage k c)
+    unfolding createMessage
+    create-message-makes b free = make-message (freeMessage k) _ b (rw free) refl
+
+    pub destroy-message-clears : c .a < messageCount → isQueued (message k (c .a)) ≡ false
+        → MadeMessage (c .a) noMessage k (destroyMessage k c)
+    unfolding destroyMessage
+    destroy-message-clears b held = make-message (c .a) noMessage b held refl

@@ -1,2 +1,1 @@
-pub mod LawsOfMaking
 pub mod LawsOfMessages

@@ -29,7 +29,7 @@ use Rattle.spec_effects.specs.Effects.{nothing, effectsOfKinds, effect}
 use Rattle.proof_rules.proofs.Core.{live-semaphore}
 use Rattle.proof_rules.proofs.Ends.{Before, before}
 use Rattle.proof_rules.proofs.Accepted.{accepted}
-use Rattle.proof_rules.proofs.Kept.{rules-kept}
+use Rattle.spec_effects.proofs.RulesKept.{rules-kept}
 use Rattle.spec_notes.specs.Rows.{threadCode, threadRow, semaphoreRow, semaphoreWidths}
 use Rattle.spec_notes.specs.Touched.{sameThread, sameSemaphore, youngerThread, youngerSemaphore, movesInPlace}
 use Rattle.spec_notes.specs.Touched.{touchedThread, touchedSemaphore, touchedEvent, touchedMessage}

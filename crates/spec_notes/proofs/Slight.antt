@@ -40,7 +40,7 @@ use Rattle.spec_effects.specs.Effects.{effect}
 use Rattle.proof_rules.proofs.Ends.{Before}
 use Rattle.proof_rules.proofs.Free.{free-id}
 use Rattle.proof_rules.proofs.Accepted.{Accepted, message-named}
-use Rattle.proof_rules.proofs.Effects.{_▸_, end, effect-of}
+use Rattle.spec_effects.proofs.ByKind.{_▸_, end, effect-of}
 use Rattle.proof_rules.proofs.OfDestroy.{freed-record}
 use Rattle.spec_notes.specs.Rows.{eventRow, messageRow}
 use Rattle.spec_notes.specs.Touched.{sameRow, sameEvent, sameMessage, touchedEvent, touchedMessage}

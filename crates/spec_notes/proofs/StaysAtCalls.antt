@@ -10,8 +10,8 @@ use Rattle.spec_semaphores.specs.Semaphores.{createSemaphore, destroySemaphore,
 use Rattle.spec_effects.specs.Effects.{effect}
 use Rattle.proof_rules.proofs.Ends.{Before, before}
 use Rattle.proof_rules.proofs.Accepted.{Accepted, accepted}
-use Rattle.proof_rules.proofs.Effects.{_▸_, end, effect-of}
-use Rattle.proof_rules.proofs.Kept.{rules-kept}
+use Rattle.spec_effects.proofs.ByKind.{_▸_, end, effect-of}
+use Rattle.spec_effects.proofs.RulesKept.{rules-kept}
 use Rattle.spec_notes.specs.Touched.{touchedThread, touchedMessage}
 use Rattle.spec_notes.specs.Within.{Within, CallWithin}
 use Rattle.spec_notes.specs.LeftAlone.{LeftAlone}

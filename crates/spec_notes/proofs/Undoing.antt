@@ -22,7 +22,7 @@ use Rattle.spec_refusals.specs.Refusals.{is, numberOf}
 use Rattle.spec_moves.specs.States.{scheduled}
 use Rattle.spec_effects.specs.Effects.{effect}
 use Rattle.proof_rules.proofs.Ends.{before}
-use Rattle.proof_rules.proofs.Kept.{rules-kept}
+use Rattle.spec_effects.proofs.RulesKept.{rules-kept}
 use Rattle.spec_notes.specs.Notes.{sectionCount, threadsIn, semaphoresIn, eventsIn, messagesIn, noteOf, leastNote}
 use Rattle.spec_notes.specs.Back.{bitChanged, bitsBefore, earlier, threadsBack, postsBack, beforeAt, stateBefore}
 use Rattle.spec_notes.specs.Within.{Within}

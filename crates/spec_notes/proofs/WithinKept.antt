@@ -32,8 +32,8 @@ use Rattle.spec_time.specs.Time.{later, timePasses, pulse, pulseFrom, tick}
 use Rattle.spec_effects.specs.Effects.{effect}
 use Rattle.proof_rules.proofs.Ends.{Before, before}
 use Rattle.proof_rules.proofs.Accepted.{Accepted, accepted}
-use Rattle.proof_rules.proofs.Effects.{_▸_, end, effect-of}
-use Rattle.proof_rules.proofs.Kept.{rules-kept}
+use Rattle.spec_effects.proofs.ByKind.{_▸_, end, effect-of}
+use Rattle.spec_effects.proofs.RulesKept.{rules-kept}
 use Rattle.proof_rules.proofs.OfDestroy.{freed-record}
 use Rattle.proof_rules.proofs.Wakings.{outs-last, passes-record}
 use Rattle.spec_notes.specs.Within.{Within, CallWithin}

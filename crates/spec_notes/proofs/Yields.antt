@@ -9,7 +9,7 @@ use Rattle.spec_rules.specs.Rules.{Sized, Rules}
 use Rattle.spec_calls.specs.Calls.{callOf}
 use Rattle.spec_moves.specs.States.{scheduled}
 use Rattle.spec_effects.specs.Effects.{effect}
-use Rattle.proof_rules.proofs.Kept.{rules-kept}
+use Rattle.spec_effects.proofs.RulesKept.{rules-kept}
 use Rattle.spec_notes.specs.Back.{stateBefore}
 use Rattle.spec_notes.specs.Within.{Within, CallWithin}
 use Rattle.spec_notes.specs.LeftAlone.{LeftAlone}

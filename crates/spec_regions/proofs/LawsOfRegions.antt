@@ -6,18 +6,8 @@ use Rattle.spec_kernel.specs.declared.records.Kernel.{Kernel}
 use Rattle.spec_calls.specs.declared.call.Call.{Call}
 use Rattle.spec_moves.specs.States.{withLevels}
 use Rattle.spec_regions.specs.Regions.{pushUnscheduled, popUnscheduled, popAllUnscheduled, pushCritical, popCritical, popAllCritical}
-use Rattle.spec_kernel.specs.WordsOfLaws.{SameThreads, SameMessages, SameEvents}
-
--- the levels are these, and all else is as it was
-pub record Levels (unscheduled critical : ℕ) (k k′ : Kernel) : Type 0 where
-  pub unscheduledIs : k′ .unscheduled ≡ unscheduled
-  pub criticalIs : k′ .critical ≡ critical
-  pub threads : SameThreads k k′
-  pub semaphores : k′ .semaphores ≡ k .semaphores
-  pub events : SameEvents k k′
-  pub messages : SameMessages k k′
-  pub uptime : k′ .uptime ≡ k .uptime
-  pub runner : k′ .runner ≡ k .runner
+use Rattle.spec_laws.specs.Words.{SameThreads, SameMessages, SameEvents}
+use Rattle.spec_laws.specs.OfRegions.{Levels}
 
 levels-only : (k : Kernel) (unscheduled critical : ℕ) → Levels unscheduled critical k (withLevels unscheduled critical k)
 levels-only k unscheduled critical =

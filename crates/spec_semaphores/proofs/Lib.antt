@@ -1,2 +1,1 @@
 pub mod LawsOfSemaphores
-pub mod LawsOfMaking

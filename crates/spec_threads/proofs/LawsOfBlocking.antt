@@ -15,31 +15,10 @@ use Rattle.spec_moves.specs.Standing.{threadsOf, Standing}
 use Rattle.spec_moves.proofs.Threads.{ready-home, relocate-same, relocate-other, relocate-leaves}
 use Rattle.spec_calls.specs.declared.call.Call.{Call}
 use Rattle.spec_threads.specs.Threads.{block, sleep}
-use Rattle.spec_kernel.specs.WordsOfLaws.{Runnable, stopped, OnlyThreads, OtherThreads}
+use Rattle.spec_laws.specs.Words.{Runnable, stopped, OnlyThreads, OtherThreads}
 use Rattle.spec_threads.proofs.LawsOfHomes.{place-only, live-home, ready-live, live-id}
 use Rattle.spec_threads.proofs.LawsOfHomes.{line-without, time-stays, time-joins, line-joins}
-
--- u comes after t in a queue: it has a lower priority, which is a greater number
-abbrev pub isLower : Kernel → ℕ → ℕ → Bool
-isLower k t u = ltb (thread k t .priority) (thread k u .priority)
-
--- u comes after who has so many ticks left in the time queue: it has more
-abbrev pub isLater : Kernel → ℕ → ℕ → Bool
-isLater k ticks u = ltb ticks (thread k u .ticks)
-
--- The caller t of k has stopped in k′: it joins the queue of home h, or none where h is nowhere.
-pub record Blocked (condition : Condition) (timeout h t : ℕ) (k k′ : Kernel) : Type 0 where
-  -- It is out of its ready list, and in its queue before those of a lower priority, behind all others [01, calls: Blocking 1].
-  pub left : readyList k′ (thread k t .priority) ≡ without t (readyList k (thread k t .priority))
-  pub joined : (h ≡ nowhere → ⊥) → atHome k′ h ≡ behind (isLower k t) t (atHome k h)
-  -- every other list and queue is as it was
-  pub lists : (n : ℕ) → (n ≡ readyHome (thread k t .priority) → ⊥) → (n ≡ h → ⊥) → atHome k′ n ≡ atHome k n
-  -- With timeout 0 the time queue stays; else it joins there before those with more ticks left, behind all others [01, calls: Blocking 2].
-  pub forever : timeout ≡ 0 → timeQueue k′ ≡ timeQueue k
-  pub timed : 0 < timeout → timeQueue k′ ≡ behind (isLater k timeout) t (timeQueue k)
-  -- Its wake reason is none now and its reply 255; nobody else's record changes [01, calls: Blocking 5].
-  pub itself : thread k′ t ≡ stopped condition timeout (thread k t)
-  pub others : OtherThreads t k k′
+use Rattle.spec_laws.specs.OfThreads.{isLower, isLater, Blocked}
 
 module _ (k : Kernel) (S : Standing (threadsOf k)) (R : Runnable (thread k (k .runner))) (condition : Condition) (timeout : ℕ) where
   pub block-blocks : {h : ℕ} → homeFor condition (thread k (k .runner) .priority) ≡ h → 256 ≤ h
@@ -60,19 +39,11 @@ module _ (k : Kernel) (S : Standing (threadsOf k)) (R : Runnable (thread k (k .r
         timed = λ z. time-joins S t id r (R .untimed) z;
         itself = relocate-same (threadsOf k) t r (S .count) id;
         others = λ u ne. relocate-other (threadsOf k) t r ne;
+        only = place-only t r k;
       }
-
--- and nothing but threads changes
-pub block-only : (condition : Condition) (timeout : ℕ) (k : Kernel) → OnlyThreads k (block condition timeout k)
-unfolding block
-block-only condition timeout k = place-only (k .runner) (stopped condition timeout (thread k (k .runner))) k
 
 -- kind 7: the caller sleeps, in no queue but the time queue
 module _ (k : Kernel) (c : Call) where
   pub sleep-blocks : Standing (threadsOf k) → Runnable (thread k (k .runner)) → Blocked Asleep (c .c) nowhere (k .runner) k (sleep k c)
   unfolding sleep
   sleep-blocks S R = block-blocks k S R Asleep (c .c) refl (omega arith)
-
-  pub sleep-only : OnlyThreads k (sleep k c)
-  unfolding sleep
-  sleep-only = block-only Asleep (c .c) k

@@ -21,28 +21,10 @@ use Rattle.spec_moves.specs.Standing.{threadsOf, postsOf, Standing, Filed}
 use Rattle.spec_moves.proofs.Threads.{relocate-same, relocate-other, relocate-leaves}
 use Rattle.spec_calls.specs.declared.call.Call.{Call}
 use Rattle.spec_threads.specs.Threads.{owns, freedFrom, freeMessages, destroyThread}
-use Rattle.spec_kernel.specs.WordsOfLaws.{OtherThreads, SameEvents, SameScheduler}
+use Rattle.spec_laws.specs.Words.{OtherThreads, SameEvents, SameScheduler}
 use Rattle.spec_threads.proofs.LawsOfLists.{keep-none}
 use Rattle.spec_threads.proofs.LawsOfHomes.{posted-live, time-left}
-
--- Thread a of k is gone in k′.
-pub record Destroyed (a : ℕ) (k k′ : Kernel) : Type 0 where
-  -- it stands in no list or queue any more, and the others keep their order [01, calls: Threads 3]
-  pub lists : (h : ℕ) → h < nowhere → atHome k′ h ≡ without a (atHome k h)
-  pub time : timeQueue k′ ≡ without a (timeQueue k)
-  pub itself : thread k′ a ≡ noThread
-  pub others : OtherThreads a k k′
-  -- its messages are freed: it owns none, and its channels are empty [01, calls: Threads 3]
-  pub freed : (m : ℕ) → message k m .live ≡ true → message k m .owner ≡ a → message k′ m ≡ noMessage
-  pub owned : (m : ℕ) → message k′ m .live ≡ true → message k′ m .owner ≡ a → ⊥
-  pub channels : (c : ℕ) → channel k′ a c ≡ []
-  -- every other message, and every other thread's channel, is as it was
-  pub messages : (m : ℕ) → (message k m .live ≡ true → message k m .owner ≡ a → ⊥) → message k′ m ≡ message k m
-  pub otherChannels : (t c : ℕ) → (t ≡ a → ⊥) → channel k′ t c ≡ channel k t c
-  -- nothing else changes
-  pub semaphores : k′ .semaphores ≡ k .semaphores
-  pub events : SameEvents k k′
-  pub scheduler : SameScheduler k k′
+use Rattle.spec_laws.specs.OfThreads.{Destroyed}
 
 module _ (k : Kernel) (a : ℕ) where
   abbrev after : Kernel

@@ -26,7 +26,7 @@ use Rattle.spec_moves.specs.Standing.{atHomeIn, messageIn, Standing, Filed}
 use Rattle.spec_moves.proofs.Rejoined.{Table, table-joins}
 use Rattle.spec_moves.proofs.Threads.{ready-home, relocate-standing, relocate-same, relocate-joins, relocate-time-order}
 use Rattle.spec_moves.specs.States.{moveThread}
-use Rattle.spec_kernel.specs.WordsOfLaws.{Stopped, OnlyThreads}
+use Rattle.spec_laws.specs.Words.{Stopped, OnlyThreads}
 use Rattle.spec_threads.proofs.LawsOfLists.{live-inside, keep-once, keep-missing, keep-absent, behind-same}
 
 -- a test of two numbers, each with as much in front

@@ -10,6 +10,7 @@ use borrow.Author.Tests.{eqb-true, eqb-false, ne-eqb, ltb-true, ltb-false, lt-lt
 use borrow.Table.Steps.{cases}
 use Rattle.base_queue.specs.Lists.{keep, without, count, has, behind}
 use Rattle.base_queue.proofs.Counts.{same, count-head, count-rest, count-keep, keep-same, keep-keep, without-absent}
+use Rattle.spec_laws.specs.Words.{withoutAll}
 
 -- an id with a live record is in reach, where d, the record past the last, isn't live
 pub live-inside : {A : Type 0} (live : A → Bool) (d : A) → live d ≡ false → (l : List A) {n : ℕ} → length l ≡ n
@@ -42,10 +43,6 @@ without-first x l b = rw same (without-absent x l (omega (arith, rw same at b)))
 pub behind-same : {f g : ℕ → Bool} (x : ℕ) (l : List ℕ) → ((u : ℕ) → 0 < count u l → f u ≡ g u) → behind f x l ≡ behind g x l
 behind-same x [] h = refl
 behind-same x (y ∷ l) h = rw (h y (count-head y l), behind-same x l (λ u c. h u (count-rest u y l c)))
-
--- the members of m that are not in l, in their order
-abbrev pub withoutAll : List ℕ → List ℕ → List ℕ
-withoutAll l m = keep (λ t. not (has t l)) m
 
 -- one after the other
 pub withoutAll-next : (x : ℕ) (l m : List ℕ) → withoutAll l (without x m) ≡ withoutAll (x ∷ l) m

@@ -24,9 +24,10 @@ use Rattle.spec_kernel.specs.Free.{lowestFree, freeThread}
 use Rattle.spec_calls.specs.declared.call.Call.{Call}
 use Rattle.spec_moves.specs.States.{moveThread, scheduled}
 use Rattle.spec_threads.specs.Threads.{createThread, setPriority, resetPriority, yielded}
-use Rattle.spec_kernel.specs.WordsOfLaws.{Runnable, prioritized, newborn, OnlyThreads, OnlyRunner, OtherThreads}
+use Rattle.spec_laws.specs.Words.{Runnable, prioritized, newborn, OnlyThreads, OnlyRunner, OtherThreads}
 use Rattle.spec_threads.proofs.LawsOfHomes.{place-only, live-home, ready-live, live-id}
 use Rattle.spec_threads.proofs.LawsOfHomes.{line-without, line-nowhere, time-stays, line-joins}
+use Rattle.spec_laws.specs.OfThreads.{Created, Yielded, Reprioritized}
 
 -- ---- who runs
 -- To choose moves nobody: a preempted thread stands where it stood [01, calls: Blocking 4].
@@ -48,19 +49,6 @@ unfolding scheduled
 scheduled-region k b = rw (ne-eqb (k .unscheduled + k .critical) 0 (λ z. omega arith))
 
 -- ---- create
--- Thread t is new in k′, with this priority.
-pub record Created (priority t : ℕ) (k k′ : Kernel) : Type 0 where
-  -- its id was free, and every lower one taken [01, modelled 5]
-  pub free : thread k t .live ≡ false
-  pub lowest : (u : ℕ) → u < t → thread k u .live ≡ true
-  -- it stands last in its list; every other list and queue is as it was, and so whoever it preempts [01, calls: Blocking 4]
-  pub last : readyList k′ priority ≡ readyList k priority ++ t ∷ []
-  pub lists : (h : ℕ) → (h ≡ readyHome priority → ⊥) → atHome k′ h ≡ atHome k h
-  pub time : timeQueue k′ ≡ timeQueue k
-  -- its wake reason is none and its reply 255; nobody else's record changes [01, calls: Blocking 5]
-  pub itself : thread k′ t ≡ newborn priority
-  pub others : OtherThreads t k k′
-
 -- an id that isn't 255 is that of the first record that isn't live
 module _ {A : Type 0} (live : A → Bool) (d : A) where
   free-from : (n : ℕ) (l : List A) → (lowestFree live n l ≡ 255 → ⊥)
@@ -74,10 +62,6 @@ module _ {A : Type 0} (live : A → Bool) (d : A) where
       (λ e. (0, rw e (omega arith), omega arith, e, λ j b. absurd (omega arith)))
 
 module _ (k : Kernel) (c : Call) where
-  pub create-only : OnlyThreads k (createThread k c)
-  unfolding createThread
-  create-only = place-only (freeThread k) (newborn (c .a)) k
-
   module _ (S : Standing (threadsOf k)) (byte : c .a < 256) (room : freeThread k ≡ 255 → ⊥)
       (clean : thread k (freeThread k) .ticks ≡ 0) where
     pub create-creates : Created (c .a) (freeThread k) k (createThread k c)
@@ -97,22 +81,11 @@ module _ (k : Kernel) (c : Call) where
           time = ap items (time-stays (threadsOf k) t r clean);
           itself = relocate-same (threadsOf k) t r (S .count) id;
           others = λ u ne. relocate-other (threadsOf k) t r ne;
+          only = place-only t r k;
         }
 
 -- ---- yield
--- Yield puts the caller t last in its list.
-pub record Yielded (t : ℕ) (k k′ : Kernel) : Type 0 where
-  pub last : readyList k′ (thread k t .priority) ≡ without t (readyList k (thread k t .priority)) ++ t ∷ []
-  -- nobody else moves, and no record changes
-  pub lists : (h : ℕ) → (h ≡ readyHome (thread k t .priority) → ⊥) → atHome k′ h ≡ atHome k h
-  pub time : timeQueue k′ ≡ timeQueue k
-  pub records : (u : ℕ) → thread k′ u ≡ thread k u
-
 module _ (k : Kernel) (c : Call) where
-  pub yield-only : OnlyThreads k (yielded k c)
-  unfolding yielded
-  yield-only = place-only (k .runner) (thread k (k .runner)) k
-
   pub yield-yields : Standing (threadsOf k) → Runnable (thread k (k .runner)) → Yielded (k .runner) k (yielded k c)
   unfolding yielded
   yield-yields S R =
@@ -127,27 +100,10 @@ module _ (k : Kernel) (c : Call) where
         records = λ u.
             cases (eqb u t) (λ e. rw (eqb-true u t e) (relocate-same (threadsOf k) t r (S .count) id))
             (λ e. relocate-other (threadsOf k) t r (eqb-false u t e));
+        only = place-only t r k;
       }
 
 -- ---- priorities
--- Thread a has the priority `new` in k′, and stands behind all that have it too, in a ready list or in its queue; the same
--- where it had this priority before [01, calls: Threads 2].
-pub record Reprioritized (new a : ℕ) (k k′ : Kernel) : Type 0 where
-  -- a ready thread is last in its new list and out of its old one, where the others keep their order
-  pub last : isReady (thread k a) ≡ true → readyList k′ new ≡ without a (readyList k new) ++ a ∷ []
-  pub lists : isReady (thread k a) ≡ true → (h : ℕ) → (h ≡ readyHome new → ⊥) → atHome k′ h ≡ without a (atHome k h)
-  -- a waiter stands in its queue behind its new equals, before those of a lower priority
-  pub semaphore : (i : ℕ) → i < 256 → thread k a .condition ≡ ForSemaphore i
-      → semaphoreQueue k′ i ≡ behind (λ u. ltb new (thread k u .priority)) a (without a (semaphoreQueue k i))
-  pub event : (i : ℕ) → i < 256 → thread k a .condition ≡ ForEvent i
-      → eventQueue k′ i ≡ behind (λ u. ltb new (thread k u .priority)) a (without a (eventQueue k i))
-  -- and nobody else moves; who sleeps or waits for a message has no home to move in
-  pub elsewhere : isReady (thread k a) ≡ false → (h : ℕ) → (h ≡ homeFor (thread k a .condition) new → ⊥) → atHome k′ h ≡ atHome k h
-  pub time : timeQueue k′ ≡ timeQueue k
-  -- nothing else of it changes, and nobody else's record does
-  pub itself : thread k′ a ≡ prioritized new (thread k a)
-  pub others : OtherThreads a k k′
-
 -- the home of who isn't ready is the same for every priority
 unmoved : (c : Condition) (p q : ℕ) → readyFor c ≡ false → homeFor c p ≡ homeFor c q
 unmoved Ready p q e = absurd (false≢true (sym e))
@@ -173,17 +129,10 @@ module _ (k : Kernel) (S : Standing (threadsOf k)) (a new : ℕ) (l : thread k a
         time = ap items (time-stays (threadsOf k) a r refl);
         itself = relocate-same (threadsOf k) a r (S .count) id;
         others = λ u ne. relocate-other (threadsOf k) a r ne;
+        only = place-only a r k;
       }
 
 module _ (k : Kernel) (c : Call) where
-  pub set-priority-only : OnlyThreads k (setPriority k c)
-  unfolding setPriority
-  set-priority-only = place-only (c .a) _ k
-
-  pub reset-priority-only : OnlyThreads k (resetPriority k c)
-  unfolding resetPriority
-  reset-priority-only = place-only (c .a) _ k
-
   module _ (S : Standing (threadsOf k)) (l : thread k (c .a) .live ≡ true) where
     pub set-priority-sets : c .b < 256 → Reprioritized (c .b) (c .a) k (setPriority k c)
     unfolding setPriority

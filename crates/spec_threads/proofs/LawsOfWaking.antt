@@ -22,25 +22,12 @@ use Rattle.spec_moves.specs.Standing.{threadsOf, atHomeIn, Standing}
 use Rattle.spec_moves.proofs.Threads.{ready-home, relocate-standing, relocate-same, relocate-other, relocate-last, relocate-leaves}
 use Rattle.spec_moves.specs.States.{withThreads, each}
 use Rattle.spec_threads.specs.Threads.{wake}
-use Rattle.spec_kernel.specs.WordsOfLaws.{Stopped, readied, OnlyThreads, OtherThreads}
-use Rattle.spec_threads.proofs.LawsOfLists.{withoutAll, withoutAll-next}
+use Rattle.spec_laws.specs.Words.{withoutAll, Stopped, readied, OnlyThreads, OtherThreads}
+use Rattle.spec_threads.proofs.LawsOfLists.{withoutAll-next}
 use Rattle.spec_threads.proofs.LawsOfHomes.{place-only, stopped-home, live-id, line-without, time-left}
+use Rattle.spec_laws.specs.OfThreads.{Woken}
 
 -- ---- one thread
--- Thread t of k is awake in k′, for the reason `why` and with the reply `reply`.
-pub record Woken (why : Wake) (reply t : ℕ) (k k′ : Kernel) : Type 0 where
-  -- it stands last in its priority's list, where it did not stand before
-  pub last : readyList k′ (thread k t .priority) ≡ readyList k (thread k t .priority) ++ t ∷ []
-  -- every other ready list is as it was: whoever it preempts stands where it stood [01, calls: Blocking 4]
-  pub lists : (p : ℕ) → p < 256 → (p ≡ thread k t .priority → ⊥) → readyList k′ p ≡ readyList k p
-  -- it is out of every queue, and the others keep their order there
-  pub queues : (h : ℕ) → (h ≡ readyHome (thread k t .priority) → ⊥) → atHome k′ h ≡ without t (atHome k h)
-  -- out of the time queue too
-  pub time : timeQueue k′ ≡ without t (timeQueue k)
-  -- it is ready with no ticks left, the reason and the reply are new, and nobody else's record changes
-  pub itself : thread k′ t ≡ readied why reply (thread k t)
-  pub others : OtherThreads t k k′
-
 module _ {p : Threads} (S : Standing p) (t : ℕ) (W : Stopped (threadIn p t)) where
   -- who sleeps or waits is in no ready list
   pub stopped-list : {q : ℕ} → q < 256 → without t (atHomeIn p q) ≡ atHomeIn p q

@@ -3,6 +3,7 @@ use mathlib.Core.Path.{_≡_, refl, ap, _∙_}
 use mathlib.Core.Bool.{Bool, not}
 use mathlib.Core.List.{List, [], _∷_, _++_}
 use Prim.Native.Nat.{ℕ, zero, suc, _+_, _-_, _≤_, _<_}
+use native.Mathlib.Nat.{add-zero, zero-add, add-suc, suc-add}
 use native.Mathlib.Omega.{arith}
 use lib.Dec.{eqb}
 use lib.ListN.{length, length-set, List·getD-map}
@@ -25,40 +26,14 @@ use Rattle.spec_kernel.specs.Places.{homeOf, atHome, readyList, semaphoreQueue,
 use Rattle.spec_moves.specs.Moves.{threadIn}
 use Rattle.spec_moves.specs.Standing.{threadsOf, atHomeIn, Standing}
 use Rattle.spec_calls.specs.declared.call.Call.{Call}
-use Rattle.spec_moves.specs.States.{withThreads, withSemaphores, withSemaphore, withUptime, each}
+use Rattle.spec_moves.specs.States.{withThreads, withSemaphores, withUptime, each}
 use Rattle.spec_threads.specs.Threads.{wake}
 use Rattle.spec_semaphores.specs.Semaphores.{raised, postTo, post}
 use Rattle.spec_time.specs.Time.{later, reasonAt, timeUp, due, aged, ageAll, timePasses, pulse, pulseFrom, tick}
-use Rattle.spec_kernel.specs.WordsOfLaws.{Stopped, readied, ticking, pulsing, SameEvents, SameMessages, OnlySemaphore}
-use Rattle.spec_threads.proofs.LawsOfLists.{withoutAll}
+use Rattle.spec_laws.specs.Words.{withoutAll, Stopped, readied, ticking, pulsing}
 use Rattle.spec_threads.proofs.LawsOfWaking.{AllWoken, each-woken}
-use Rattle.spec_semaphores.proofs.LawsOfSemaphores.{semaphore-same, semaphore-only}
-
--- the last tick of thread t is this one
-abbrev pub isDue : Kernel → ℕ → Bool
-isDue k t = eqb (thread k t .ticks) 1
-
--- The reason of one whose time is up: met for a sleeper, timed out for a waiter, with its object kind [01, calls: Tick 2].
-abbrev pub timeoutOf : Condition → Wake
-timeoutOf Ready = Wake.Met
-timeoutOf Asleep = Wake.Met
-timeoutOf (ForSemaphore i) = Wake.TimedOut Object.Semaphore
-timeoutOf (ForEvent i) = Wake.TimedOut Object.Event
-timeoutOf (ForMessage mask) = Wake.TimedOut Object.Message
-
--- A tick of k has passed for the threads of k′.
-pub record TimePassed (k k′ : Kernel) : Type 0 where
-  -- who has more than one tick left loses one, and nothing else of it changes
-  pub counts : (t : ℕ) → 1 < thread k t .ticks → thread k′ t ≡ ticking (thread k t .ticks - 1) (thread k t)
-  -- who had one left wakes
-  pub wakes : (t : ℕ) → thread k t .ticks ≡ 1 → thread k′ t ≡ readied (timeoutOf (thread k t .condition)) (thread k t .reply) (thread k t)
-  -- nobody else's record changes
-  pub others : (t : ℕ) → thread k t .ticks ≡ 0 → thread k′ t ≡ thread k t
-  -- in time queue order: each ready list gets those of its priority
-  pub lists : (p : ℕ) → p < 256 → readyList k′ p ≡ readyList k p ++ keep (λ t. eqb (thread k t .priority) p) (keep (isDue k) (timeQueue k))
-  -- they are out of every queue and out of the time queue, and the others keep their order there
-  pub queues : (h : ℕ) → 256 ≤ h → atHome k′ h ≡ keep (λ t. not (isDue k t)) (atHome k h)
-  pub time : timeQueue k′ ≡ keep (λ t. not (isDue k t)) (timeQueue k)
+use Rattle.spec_semaphores.proofs.LawsOfSemaphores.{make-semaphore, post-posts}
+use Rattle.spec_laws.specs.OfTime.{isDue, TimePassed, Pulsed, Ticked}
 
 -- each wakes for its timeout
 abbrev asDue : Thread → Wake
@@ -117,7 +92,7 @@ module _ (k : Kernel) (S : Standing (threadsOf k)) (T : (t : ℕ) → 0 < thread
   aged-time = refl
 
   -- Whoever is timed has a tick less; who has none left then wakes, in time queue order [01, calls: Tick 2].
-  pub time-passes : TimePassed k after
+  time-passes : TimePassed k after
   unfolding due
   time-passes = record {
     counts = λ t b. aged-record t ∙ rw (all-woken .others t (due-not t (λ z. omega arith)));
@@ -138,47 +113,35 @@ post-length i k = go (semaphoreQueue k i)
     go [] = length-set (k .semaphores) i (raised (semaphore k i))
     go (t ∷ l) = refl
 
-module _ (i : ℕ) (k : Kernel) where
-  -- one that isn't periodic does nothing
-  pub pulse-rests : semaphore k i .period ≡ 0 → pulse i k ≡ k
-  unfolding pulse
-  pulse-rests e = rw e
+-- what a semaphore's turn asks of the state: everybody in place, bytes for priorities, and a record for each id
+pub record Turn (k : Kernel) : Type 0 where
+  pub standing : Standing (threadsOf k)
+  pub bytes : (t : ℕ) → thread k t .priority < 256
+  pub sized : length (k .semaphores) ≡ semaphoreCount
 
-  module _ (periodic : 0 < semaphore k i .period) where
-    abbrev r : Semaphore
-    r = semaphore k i
+pulse-pulses : (i : ℕ) (k : Kernel) → Turn k → i < semaphoreCount → Pulsed i k (pulse i k)
+unfolding pulse
+pulse-pulses i k T b =
+    let r = semaphore k i in
+    let b′ : i < length (k .semaphores) = omega (arith, T .sized) in
+    record {
+      rests = λ e. rw e;
+      counts = λ p h.
+          rw (ne-eqb (r .period) 0 (λ z. omega arith), ne-eqb (r .ticks) 1 (λ z. omega arith))
+          (make-semaphore k i (pulsing (r .ticks - 1) (r .period) r) b′);
+      posts = λ p h.
+          rw (ne-eqb (r .period) 0 (λ z. omega arith), h) (
+            post i k,
+            post-posts k i (T .standing) (T .bytes) b′,
+            make-semaphore (post i k) i (pulsing (r .period) (r .period) (semaphore (post i k) i)) (rw post-length b′),
+          );
+    }
 
-    -- with more than one tick left it loses one, and nothing else changes
-    module _ (more : 1 < semaphore k i .ticks) where
-      abbrev fewer : Semaphore
-      fewer = pulsing (r .ticks - 1) (r .period) r
-
-      pulse-on : pulse i k ≡ withSemaphore i fewer k
-      unfolding pulse
-      pulse-on = rw (ne-eqb (r .period) 0 (λ z. omega arith), ne-eqb (r .ticks) 1 (λ z. omega arith))
-
-      pub pulse-counts : i < length (k .semaphores)
-          → semaphore (pulse i k) i ≡ pulsing (semaphore k i .ticks - 1) (semaphore k i .period) (semaphore k i)
-      pulse-counts b = rw pulse-on (semaphore-same k i fewer b)
-
-      pub pulse-only : OnlySemaphore i k (pulse i k)
-      pulse-only = rw pulse-on (semaphore-only k i fewer)
-
-    -- with one left it is posted, and its ticks left are its period
-    module _ (last : semaphore k i .ticks ≡ 1) where
-      abbrev anew : Semaphore
-      anew = pulsing (r .period) (r .period) (semaphore (post i k) i)
-
-      pulse-off : pulse i k ≡ withSemaphore i anew (post i k)
-      unfolding pulse
-      pulse-off = rw (ne-eqb (r .period) 0 (λ z. omega arith), last)
-
-      pub pulse-posts : i < length (k .semaphores)
-          → semaphore (pulse i k) i ≡ pulsing (semaphore k i .period) (semaphore k i .period) (semaphore (post i k) i)
-      pulse-posts b = rw pulse-off (semaphore-same (post i k) i anew (rw post-length b))
-
-      pub pulse-posts-only : OnlySemaphore i (post i k) (pulse i k)
-      pulse-posts-only = rw pulse-off (semaphore-only (post i k) i anew)
+-- the last of several turns
+pulses-last : (i n : ℕ) (k : Kernel) → pulseFrom i (suc n) k ≡ pulse (i + n) (pulseFrom i n k)
+unfolding pulseFrom
+pulses-last i zero k = rw (add-zero i)
+pulses-last i (suc n) k = pulses-last (suc i) n (pulse i k) ∙ rw (add-suc i n, suc-add i n)
 
 -- ---- the tick
 -- what neither threads nor semaphores show
@@ -205,30 +168,37 @@ module _ {A : Type 0} (g : Kernel → A) (threads : (p : Threads) (k : Kernel) �
   unfolding tick
   tick-hides k c = pulses-hide 0 semaphoreCount _ ∙ threads _ _
 
-module _ (k : Kernel) (c : Call) where
-  -- One tick more of uptime; after 4,294,967,295 comes 0 [01, calls: Tick 1].
-  pub tick-uptime : k .uptime < 4294967295 → tick k c .uptime ≡ k .uptime + 1
-  tick-uptime b = tick-hides (λ s. s .uptime) (λ _ _. refl) (λ _ _. refl) k c ∙ rw (ne-eqb (k .uptime) 4294967295 (λ z. omega arith))
+-- the state when the time has passed for the threads, and when it is semaphore i's turn
+abbrev pub passed : Kernel → Kernel
+passed k = withThreads (timePasses (threadsOf k)) (withUptime (later (k .uptime)) k)
 
-  pub tick-wraps : k .uptime ≡ 4294967295 → tick k c .uptime ≡ 0
-  tick-wraps e = tick-hides (λ s. s .uptime) (λ _ _. refl) (λ _ _. refl) k c ∙ rw e
+abbrev pub turnOf : Kernel → ℕ → Kernel
+turnOf k i = pulseFrom 0 i (passed k)
 
-  -- and nothing but threads and semaphores changes beside it
-  pub tick-leaves : SameEvents k (tick k c) × SameMessages k (tick k c)
-  tick-leaves = (
-    record {
-      records = tick-hides (λ s. s .events) (λ _ _. refl) (λ _ _. refl) k c;
-      bits = tick-hides (λ s. s .bits) (λ _ _. refl) (λ _ _. refl) k c;
-    },
-    record {
-      records = tick-hides (λ s. s .messages) (λ _ _. refl) (λ _ _. refl) k c;
-      posted = tick-hides (λ s. s .posted) (λ _ _. refl) (λ _ _. refl) k c;
-    },
-  )
+-- who has ticks left sleeps or waits, and each turn finds the state so that it can be made
+module _ (k : Kernel) (c : Call) (S : Standing (threadsOf k)) (T : (t : ℕ) → 0 < thread k t .ticks → Stopped (thread k t))
+    (U : (i : ℕ) → i < semaphoreCount → Turn (turnOf k i)) where
+  turned : (i : ℕ) → i < semaphoreCount → Pulsed i (turnOf k i) (turnOf k (suc i))
+  turned i b = rw (pulses-last 0 i (passed k), zero-add) (pulse-pulses i (turnOf k i) (U i b) b)
 
-  pub tick-levels : (tick k c .unscheduled ≡ k .unscheduled) × (tick k c .critical ≡ k .critical) × (tick k c .runner ≡ k .runner)
-  tick-levels = (
-    tick-hides (λ s. s .unscheduled) (λ _ _. refl) (λ _ _. refl) k c,
-    tick-hides (λ s. s .critical) (λ _ _. refl) (λ _ _. refl) k c,
-    tick-hides (λ s. s .runner) (λ _ _. refl) (λ _ _. refl) k c,
-  )
+  pub tick-ticks : Ticked k (tick k c)
+  unfolding tick pulseFrom
+  tick-ticks = record {
+    uptime = λ b. hides (λ s. s .uptime) (λ _ _. refl) (λ _ _. refl) ∙ rw (ne-eqb (k .uptime) 4294967295 (λ z. omega arith));
+    wraps = λ e. hides (λ s. s .uptime) (λ _ _. refl) (λ _ _. refl) ∙ rw e;
+    turn = turnOf k;
+    threads = time-passes k S T (withUptime (later (k .uptime)) k);
+    unposted = refl;
+    semaphores = turned;
+    ends = refl;
+    events = record { records = hides (λ s. s .events) (λ _ _. refl) (λ _ _. refl); bits = hides (λ s. s .bits) (λ _ _. refl) (λ _ _. refl) };
+    messages =
+        record { records = hides (λ s. s .messages) (λ _ _. refl) (λ _ _. refl); posted = hides (λ s. s .posted) (λ _ _. refl) (λ _ _. refl) };
+    unscheduled = hides (λ s. s .unscheduled) (λ _ _. refl) (λ _ _. refl);
+    critical = hides (λ s. s .critical) (λ _ _. refl) (λ _ _. refl);
+    runner = hides (λ s. s .runner) (λ _ _. refl) (λ _ _. refl);
+  }
+    where
+      hides : {A : Type 0} (g : Kernel → A) → ((p : Threads) (n : Kernel) → g (withThreads p n) ≡ g n)
+          → ((l : List Semaphore) (n : Kernel) → g (withSemaphores l n) ≡ g n) → g (tick k c) ≡ g (withUptime (later (k .uptime)) k)
+      hides g a b = tick-hides g a b k c

@@ -1,16 +1,18 @@
--- The words of the laws: what a thread's record becomes, and what a call leaves as it was. None of them is taken from the effects.
+-- The words of the laws: what a record becomes, and what a call leaves as it was. None of them is taken from the effects.
 use mathlib.Core.Path.{_≡_}
-use mathlib.Core.Bool.{true, false}
+use mathlib.Core.Bool.{true, false, not}
+use mathlib.Core.List.{List}
 use Prim.Native.Nat.{ℕ, _<_}
+use Rattle.base_queue.specs.Lists.{keep, has}
 use Rattle.spec_kernel.specs.declared.records.Condition.{Condition}
 use Rattle.spec_kernel.specs.declared.records.Condition.the-variants.{Ready}
 use Rattle.spec_kernel.specs.declared.records.Wake.{Wake}
 use Rattle.spec_kernel.specs.declared.records.Thread.{Thread}
 use Rattle.spec_kernel.specs.declared.records.Semaphore.{Semaphore}
 use Rattle.spec_kernel.specs.declared.records.Message.{Message}
 use Rattle.spec_kernel.specs.declared.records.Kernel.{Kernel}
 use Rattle.spec_kernel.specs.Records.{thread, semaphore, message}
 use Rattle.spec_kernel.specs.Conditions.{isReady}
 
 -- ---- threads
 -- a live thread that sleeps or waits; its priority is a byte
@@ -160,3 +162,7 @@ OtherThreads t k k′ = (u : ℕ) → (u ≡ t → ⊥) → thread k′ u ≡ th
 -- every other message likewise
 abbrev pub OtherMessages : ℕ → Kernel → Kernel → Type 0
 OtherMessages m k k′ = (n : ℕ) → (n ≡ m → ⊥) → message k′ n ≡ message k n
+
+-- the members of m that are not in l, in their order
+abbrev pub withoutAll : List ℕ → List ℕ → List ℕ
+withoutAll l m = keep (λ t. not (has t l)) m
