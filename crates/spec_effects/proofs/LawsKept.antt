@@ -1,15 +1,14 @@
 -- Every accepted call does what the law of its kind says.
-use Prim.Native.Nat.{ℕ, _≤_, _<_}
-use mathlib.Core.Path.{_≡_, refl, sym, _∙_}
-use mathlib.Core.Bool.{Bool, true, false, or-false, and-true}
+use Prim.Native.Nat.{ℕ, _<_}
+use mathlib.Core.Path.{_≡_, refl}
+use mathlib.Core.Bool.{true, false, or-false}
 use native.Mathlib.Omega.{arith}
-use lib.Dec.{ltb, eqb, leb}
+use lib.Dec.{ltb, leb}
 use lib.ListN.{length, getD}
-use borrow.Author.Tests.{eqb-false, ltb-true, leb-false, not-false}
-use Rattle.spec_kernel.specs.declared.records.Condition.the-variants.{Asleep}
+use borrow.Author.Tests.{eqb-false, leb-false}
 use Rattle.spec_kernel.specs.declared.records.Kernel.{Kernel}
-use Rattle.spec_kernel.specs.Sizes.{threadCount, semaphoreCount, eventCount, messageCount, priorityCount, channelCount, bitCount}
-use Rattle.spec_kernel.specs.Records.{thread, semaphore, message, noThread, noSemaphore, noMessage}
+use Rattle.spec_kernel.specs.Sizes.{eventCount, priorityCount, channelCount, bitCount}
+use Rattle.spec_kernel.specs.Records.{semaphore, message, noThread, noSemaphore, noMessage}
 use Rattle.spec_kernel.specs.Free.{freeThread, freeSemaphore, freeMessage}
 use Rattle.spec_kernel.specs.Places.{isQueued}
 use Rattle.spec_kernel.specs.Channels.{nextMessage}
@@ -19,7 +18,6 @@ use Rattle.spec_calls.specs.declared.call.Call.{Call}
 use Rattle.spec_calls.specs.Kinds.{kinds, noKind, names, kindOf, fromThread}
 use Rattle.spec_refusals.specs.Named.{named, valueOf}
 use Rattle.spec_refusals.specs.Refusals.{badNumber, badId, isInChannel, noneFree, outside, numberOf}
-use Rattle.spec_moves.specs.Standing.{threadsOf, postsOf}
 use Rattle.spec_threads.specs.Threads.{createThread, destroyThread, setPriority, resetPriority, yielded, sleep}
 use Rattle.spec_regions.specs.Regions.{pushUnscheduled, popUnscheduled, popAllUnscheduled, pushCritical, popCritical, popAllCritical}
 use Rattle.spec_semaphores.specs.Semaphores.{createSemaphore, destroySemaphore, makePeriodic, removePeriodic, pendSemaphore, postSemaphore}
@@ -39,7 +37,7 @@ use Rattle.spec_semaphores.proofs.LawsOfSemaphores.{create-makes, destroy-clear
 use Rattle.spec_events.proofs.LawsOfEvents.{set-sets, clear-clears, load-loads, pend-event-pends}
 use Rattle.spec_messages.proofs.LawsOfMessages.{pend-message-pends, post-message-posts, create-message-makes, destroy-message-clears}
 use Rattle.spec_time.proofs.LawsOfTime.{tick-ticks}
-use Rattle.proof_rules.proofs.Core.{Core, live-thread, live-semaphore, live-message}
+use Rattle.proof_rules.proofs.Core.{live-thread, live-semaphore, live-message}
 use Rattle.proof_rules.proofs.Ends.{Before, before}
 use Rattle.proof_rules.proofs.OfTime.{turn-core}
 use Rattle.proof_rules.proofs.Accepted.{Accepted, accepted, neither, inside, thread-named, semaphore-named, message-named}

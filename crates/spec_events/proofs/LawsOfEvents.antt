@@ -12,7 +12,7 @@ use borrow.Table.Steps.{cases}
 use Rattle.base_queue.proofs.Lists.{count-append}
 use Rattle.base_bits.specs.Words.{withBit, withoutBit}
 use Rattle.base_bits.proofs.Laws.{bit-same, bit-gone, bit-other, bit-other-without}
-use Rattle.base_queue.specs.Lists.{keep, count}
+use Rattle.base_queue.specs.Lists.{count}
 use Rattle.base_queue.proofs.Counts.{keep-all}
 use Rattle.spec_kernel.specs.declared.records.Condition.the-variants.{ForEvent}
 use Rattle.spec_kernel.specs.declared.records.Wake.{Wake}
@@ -20,10 +20,10 @@ use Rattle.spec_kernel.specs.declared.records.Thread.{Thread}
 use Rattle.spec_kernel.specs.declared.records.Event.{Event}
 use Rattle.spec_kernel.specs.declared.records.Kernel.{Kernel}
 use Rattle.spec_moves.specs.declared.parts.Threads.{Threads}
-use Rattle.spec_kernel.specs.Sizes.{semaphoreCount, eventCount, bitCount}
+use Rattle.spec_kernel.specs.Sizes.{eventCount, bitCount}
 use Rattle.spec_kernel.specs.Records.{thread, event, noEvent}
 use Rattle.spec_kernel.specs.Conditions.{ofEvents}
-use Rattle.spec_kernel.specs.Places.{home, atHome, readyList, semaphoreQueue, eventQueue, timeQueue}
+use Rattle.spec_kernel.specs.Places.{home, atHome, eventQueue}
 use Rattle.spec_kernel.specs.Truth.{isTrue}
 use Rattle.spec_moves.specs.Moves.{threadIn}
 use Rattle.spec_moves.specs.Standing.{threadsOf, atHomeIn, Standing}
@@ -31,12 +31,12 @@ use Rattle.spec_calls.specs.declared.call.Call.{Call}
 use Rattle.spec_moves.specs.States.{withEvents, each}
 use Rattle.spec_events.specs.Events.{workOut, workOutFrom, workedOut, loadEvent, pendEvent, setBit, clearBit}
 use Rattle.spec_threads.specs.Threads.{wakeIn, wokenIn}
-use Rattle.spec_laws.specs.Words.{Runnable, readied, SameMessages, SameScheduler, OnlyThreads}
+use Rattle.spec_laws.specs.Words.{Runnable}
 use Rattle.spec_threads.proofs.LawsOfLists.{keep-none}
 use Rattle.spec_threads.proofs.LawsOfHomes.{line-home, line-absent, line-once, line-stopped}
 use Rattle.spec_threads.proofs.LawsOfWaking.{Called, AllWoken, each-woken}
 use Rattle.spec_threads.proofs.LawsOfBlocking.{block-blocks}
-use Rattle.spec_laws.specs.OfEvents.{isMet, waitersFrom, WorkedOut, LoadedEvent, PendedEvent, BitIs}
+use Rattle.spec_laws.specs.OfEvents.{waitersFrom, WorkedOut, LoadedEvent, PendedEvent, BitIs}
 
 -- every priority is a byte
 abbrev pub Bytes : Threads → Type 0

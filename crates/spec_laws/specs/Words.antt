@@ -145,16 +145,6 @@ pub record OnlySemaphore (i : ℕ) (k k′ : Kernel) : Type 0 where
   pub messages : SameMessages k k′
   pub scheduler : SameScheduler k k′
 
--- nothing but who runs
-pub record OnlyRunner (k k′ : Kernel) : Type 0 where
-  pub threads : SameThreads k k′
-  pub semaphores : k′ .semaphores ≡ k .semaphores
-  pub events : SameEvents k k′
-  pub messages : SameMessages k k′
-  pub uptime : k′ .uptime ≡ k .uptime
-  pub unscheduled : k′ .unscheduled ≡ k .unscheduled
-  pub critical : k′ .critical ≡ k .critical
-
 -- every other thread has the record that it had
 abbrev pub OtherThreads : ℕ → Kernel → Kernel → Type 0
 OtherThreads t k k′ = (u : ℕ) → (u ≡ t → ⊥) → thread k′ u ≡ thread k u

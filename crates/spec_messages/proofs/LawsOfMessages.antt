@@ -1,7 +1,7 @@
 -- Messages: pended and posted, made and unmade, as spec_laws says it.
 use mathlib.Core.Path.{_≡_, refl, sym, _∙_}
 use mathlib.Core.Bool.{true, false, false≢true, and-true, and-false, and-self, and-eq-true-iff}
-use mathlib.Core.List.{List, [], _∷_, _++_}
+use mathlib.Core.List.{List, [], _∷_}
 use Prim.Native.Nat.{ℕ, _<_}
 use native.Mathlib.Nat.{mod-eq-of-lt}
 use native.Mathlib.Omega.{arith}
@@ -21,7 +21,7 @@ use Rattle.spec_kernel.specs.Sizes.{messageCount}
 use Rattle.spec_kernel.specs.Records.{thread, message, noMessage}
 use Rattle.spec_kernel.specs.Free.{freeMessage}
 use Rattle.spec_kernel.specs.Conditions.{readyFor, masks, awaits}
-use Rattle.spec_kernel.specs.Places.{nowhere, isQueued, streamOf, onChannel, channel}
+use Rattle.spec_kernel.specs.Places.{isQueued, streamOf, onChannel, channel}
 use Rattle.spec_moves.specs.Standing.{threadsOf, postsOf, Standing, Filed}
 use Rattle.spec_moves.proofs.Posts.{repost-same, repost-other, repost-joins-channel, repost-leaves-channel}
 use Rattle.spec_kernel.specs.Channels.{isFor, firstFor, nextMessage}

@@ -1,12 +1,11 @@
 -- Regions: what a push and a pop change, and that they change nothing else.
-use mathlib.Core.Path.{_≡_, refl}
+use mathlib.Core.Path.{refl}
 use Prim.Native.Nat.{ℕ, _+_, _-_, _<_}
 use borrow.Author.Tests.{lt-ltb}
 use Rattle.spec_kernel.specs.declared.records.Kernel.{Kernel}
 use Rattle.spec_calls.specs.declared.call.Call.{Call}
 use Rattle.spec_moves.specs.States.{withLevels}
 use Rattle.spec_regions.specs.Regions.{pushUnscheduled, popUnscheduled, popAllUnscheduled, pushCritical, popCritical, popAllCritical}
-use Rattle.spec_laws.specs.Words.{SameThreads, SameMessages, SameEvents}
 use Rattle.spec_laws.specs.OfRegions.{Levels}
 
 levels-only : (k : Kernel) (unscheduled critical : ℕ) → Levels unscheduled critical k (withLevels unscheduled critical k)

@@ -1,24 +1,22 @@
 -- Blocking: the caller leaves its ready list and joins its queue.
 use mathlib.Core.Path.{_≡_, refl, sym, ap, _∙_}
-use mathlib.Core.Bool.{Bool}
-use Prim.Native.Nat.{ℕ, _≤_, _<_}
+use Prim.Native.Nat.{ℕ, _≤_}
 use native.Mathlib.Omega.{arith}
-use lib.Dec.{ltb}
-use Rattle.base_queue.specs.Lists.{without, behind}
+use Rattle.base_queue.specs.Lists.{behind}
 use Rattle.base_queue.specs.Queues.{items}
 use Rattle.spec_kernel.specs.declared.records.Condition.{Condition}
 use Rattle.spec_kernel.specs.declared.records.Condition.the-variants.{Asleep}
 use Rattle.spec_kernel.specs.declared.records.Kernel.{Kernel}
 use Rattle.spec_kernel.specs.Records.{thread}
-use Rattle.spec_kernel.specs.Places.{nowhere, homeFor, readyHome, atHome, readyList, timeQueue}
+use Rattle.spec_kernel.specs.Places.{nowhere, homeFor}
 use Rattle.spec_moves.specs.Standing.{threadsOf, Standing}
 use Rattle.spec_moves.proofs.Threads.{ready-home, relocate-same, relocate-other, relocate-leaves}
 use Rattle.spec_calls.specs.declared.call.Call.{Call}
 use Rattle.spec_threads.specs.Threads.{block, sleep}
-use Rattle.spec_laws.specs.Words.{Runnable, stopped, OnlyThreads, OtherThreads}
+use Rattle.spec_laws.specs.Words.{Runnable, stopped}
 use Rattle.spec_threads.proofs.LawsOfHomes.{place-only, live-home, ready-live, live-id}
 use Rattle.spec_threads.proofs.LawsOfHomes.{line-without, time-stays, time-joins, line-joins}
-use Rattle.spec_laws.specs.OfThreads.{isLower, isLater, Blocked}
+use Rattle.spec_laws.specs.OfThreads.{isLower, Blocked}
 
 module _ (k : Kernel) (S : Standing (threadsOf k)) (R : Runnable (thread k (k .runner))) (condition : Condition) (timeout : ℕ) where
   pub block-blocks : {h : ℕ} → homeFor condition (thread k (k .runner) .priority) ≡ h → 256 ≤ h

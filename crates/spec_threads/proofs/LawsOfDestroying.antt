@@ -8,20 +8,19 @@ use lib.Dec.{eqb}
 use lib.ListN.{List·getD-map}
 use borrow.Author.Tests.{eqb-true, eqb-false, eq-eqb, ne-eqb}
 use borrow.Table.Steps.{cases}
-use Rattle.base_queue.specs.Lists.{keep, without, count}
+use Rattle.base_queue.specs.Lists.{keep, count}
 use Rattle.base_queue.specs.Queues.{items}
 use Rattle.base_queue.proofs.Counts.{keep-keep, keep-same}
 use Rattle.base_queue.proofs.Queues.{items-pack}
 use Rattle.spec_kernel.specs.declared.records.Message.{Message}
 use Rattle.spec_kernel.specs.declared.records.Kernel.{Kernel}
 use Rattle.spec_kernel.specs.Sizes.{threadCount}
-use Rattle.spec_kernel.specs.Records.{thread, message, noThread, noMessage}
-use Rattle.spec_kernel.specs.Places.{nowhere, homeOf, atHome, timeQueue, onChannel, channel}
+use Rattle.spec_kernel.specs.Records.{message, noThread, noMessage}
+use Rattle.spec_kernel.specs.Places.{homeOf, onChannel, channel}
 use Rattle.spec_moves.specs.Standing.{threadsOf, postsOf, Standing, Filed}
 use Rattle.spec_moves.proofs.Threads.{relocate-same, relocate-other, relocate-leaves}
 use Rattle.spec_calls.specs.declared.call.Call.{Call}
 use Rattle.spec_threads.specs.Threads.{owns, freedFrom, freeMessages, destroyThread}
-use Rattle.spec_laws.specs.Words.{OtherThreads, SameEvents, SameScheduler}
 use Rattle.spec_threads.proofs.LawsOfLists.{keep-none}
 use Rattle.spec_threads.proofs.LawsOfHomes.{posted-live, time-left}
 use Rattle.spec_laws.specs.OfThreads.{Destroyed}

@@ -1,6 +1,6 @@
 -- Laws on lists that the laws of the effects need, beside the queue's own.
 use mathlib.Core.Path.{_≡_, refl, sym, _∙_}
-use mathlib.Core.Bool.{Bool, true, false, not, false≢true}
+use mathlib.Core.Bool.{Bool, true, false, false≢true}
 use mathlib.Core.List.{List, [], _∷_}
 use Prim.Native.Nat.{ℕ, suc, _≤_, _<_}
 use native.Mathlib.Omega.{arith}
@@ -8,7 +8,7 @@ use lib.Dec.{eqb, ltb}
 use lib.ListN.{length, getD, List·getD-eq-default}
 use borrow.Author.Tests.{eqb-true, eqb-false, ne-eqb, ltb-true, ltb-false, lt-ltb}
 use borrow.Table.Steps.{cases}
-use Rattle.base_queue.specs.Lists.{keep, without, count, has, behind}
+use Rattle.base_queue.specs.Lists.{keep, without, count, behind}
 use Rattle.base_queue.proofs.Counts.{same, count-head, count-rest, count-keep, keep-same, keep-keep, without-absent}
 use Rattle.spec_laws.specs.Words.{withoutAll}
 

@@ -1,15 +1,12 @@
--- Threads: who runs, create, yield and priorities.
+-- Threads: create, yield and priorities, as spec_laws says it.
 use mathlib.Core.Path.{_≡_, refl, sym, ap, _∙_}
-use mathlib.Core.Bool.{Bool, true, false, false≢true}
-use mathlib.Core.List.{List, [], _∷_, _++_}
-use Prim.Native.Nat.{ℕ, zero, suc, _+_, _<_}
+use mathlib.Core.Bool.{true, false, false≢true}
+use Prim.Native.Nat.{ℕ, _<_}
 use native.Mathlib.Nat.{mod-eq-of-lt}
 use native.Mathlib.Omega.{arith}
-use lib.Dec.{eqb, ltb}
-use lib.ListN.{length, getD}
-use borrow.Author.Tests.{eqb-true, eqb-false, ne-eqb}
+use lib.Dec.{eqb}
+use borrow.Author.Tests.{eqb-true, eqb-false}
 use borrow.Table.Steps.{cases}
-use Rattle.base_queue.specs.Lists.{without, behind}
 use Rattle.base_queue.specs.Queues.{items}
 use Rattle.spec_kernel.specs.declared.records.Condition.{Condition}
 use Rattle.spec_kernel.specs.declared.records.Condition.the-variants.{Ready, Asleep, ForSemaphore, ForEvent, ForMessage}
@@ -17,50 +14,20 @@ use Rattle.spec_kernel.specs.declared.records.Kernel.{Kernel}
 use Rattle.spec_kernel.specs.Sizes.{threadCount}
 use Rattle.spec_kernel.specs.Records.{thread, noThread}
 use Rattle.spec_kernel.specs.Conditions.{isReady, readyFor}
-use Rattle.spec_kernel.specs.Places.{nowhere, homeFor, homeOf, readyHome, atHome, readyList, semaphoreQueue, eventQueue, timeQueue}
+use Rattle.spec_kernel.specs.Places.{nowhere, homeFor, homeOf}
 use Rattle.spec_moves.specs.Standing.{threadsOf, Standing}
 use Rattle.spec_moves.proofs.Threads.{ready-home, relocate-same, relocate-other, relocate-last, relocate-leaves}
-use Rattle.spec_kernel.specs.Free.{lowestFree, freeThread}
+use Rattle.spec_kernel.specs.Free.{freeThread}
+use Rattle.spec_kernel.proofs.LowestFree.{free-is-free, free-is-lowest}
 use Rattle.spec_calls.specs.declared.call.Call.{Call}
-use Rattle.spec_moves.specs.States.{moveThread, scheduled}
+use Rattle.spec_moves.specs.States.{moveThread}
 use Rattle.spec_threads.specs.Threads.{createThread, setPriority, resetPriority, yielded}
-use Rattle.spec_laws.specs.Words.{Runnable, prioritized, newborn, OnlyThreads, OnlyRunner, OtherThreads}
+use Rattle.spec_laws.specs.Words.{Runnable, prioritized, newborn}
 use Rattle.spec_threads.proofs.LawsOfHomes.{place-only, live-home, ready-live, live-id}
 use Rattle.spec_threads.proofs.LawsOfHomes.{line-without, line-nowhere, time-stays, line-joins}
 use Rattle.spec_laws.specs.OfThreads.{Created, Yielded, Reprioritized}
 
--- ---- who runs
--- To choose moves nobody: a preempted thread stands where it stood [01, calls: Blocking 4].
-pub scheduled-only : (k : Kernel) → OnlyRunner k (scheduled k)
-unfolding scheduled
-scheduled-only k = record {
-  threads = record { records = refl; places = refl; time = refl };
-  semaphores = refl;
-  events = record { records = refl; bits = refl };
-  messages = record { records = refl; posted = refl };
-  uptime = refl;
-  unscheduled = refl;
-  critical = refl;
-}
-
--- in a region nobody is chosen
-pub scheduled-region : (k : Kernel) → 0 < k .unscheduled + k .critical → scheduled k .runner ≡ k .runner
-unfolding scheduled
-scheduled-region k b = rw (ne-eqb (k .unscheduled + k .critical) 0 (λ z. omega arith))
-
 -- ---- create
--- an id that isn't 255 is that of the first record that isn't live
-module _ {A : Type 0} (live : A → Bool) (d : A) where
-  free-from : (n : ℕ) (l : List A) → (lowestFree live n l ≡ 255 → ⊥)
-      → (i : ℕ) × (lowestFree live n l ≡ n + i) × (i < length l) × (live (getD l i d) ≡ false) ×
-      ((j : ℕ) → j < i → live (getD l j d) ≡ true)
-  free-from n [] h = absurd (h refl)
-  free-from n (r ∷ l) h =
-      cases (live r)
-      (λ e. let (i, z, b, f, all) = free-from (suc n) l (rw e at h) in
-      (suc i, rw e (omega arith), omega arith, f, λ j. elim j [ zero ↦ λ _. e | suc m ↦ λ b. all m (omega arith) ]))
-      (λ e. (0, rw e (omega arith), omega arith, e, λ j b. absurd (omega arith)))
-
 module _ (k : Kernel) (c : Call) where
   module _ (S : Standing (threadsOf k)) (byte : c .a < 256) (room : freeThread k ≡ 255 → ⊥)
       (clean : thread k (freeThread k) .ticks ≡ 0) where
@@ -69,13 +36,12 @@ module _ (k : Kernel) (c : Call) where
     create-creates =
         let t = freeThread k in
         let r = newborn (c .a) in
-        let (i, z, b, free, lowest) = free-from (λ r. r .live) noThread 0 (k .threads) room in
-        let e : t ≡ i = omega arith in
+        let (b, free) = free-is-free (λ r. r .live) noThread (k .threads) room in
         let id : t < threadCount = omega (arith, S .count) in
-        let none : homeOf (thread k t) ≡ nowhere = rw (e, free) in
+        let none : homeOf (thread k t) ≡ nowhere = rw free in
         record {
-          free = rw e free;
-          lowest = λ u b. lowest u (omega arith);
+          free = free;
+          lowest = free-is-lowest (λ r. r .live) noThread (k .threads) room;
           last = relocate-last (threadsOf k) t r S id refl byte ∙ rw (line-nowhere S t (c .a) none);
           lists = λ h ne. relocate-leaves (threadsOf k) t r S id ne ∙ line-nowhere S t h none;
           time = ap items (time-stays (threadsOf k) t r clean);

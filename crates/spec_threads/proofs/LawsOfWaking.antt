@@ -16,13 +16,13 @@ use Rattle.spec_kernel.specs.declared.records.Thread.{Thread}
 use Rattle.spec_kernel.specs.declared.records.Kernel.{Kernel}
 use Rattle.spec_moves.specs.declared.parts.Threads.{Threads}
 use Rattle.spec_kernel.specs.Records.{thread}
-use Rattle.spec_kernel.specs.Places.{homeOf, readyHome, atHome, readyList, timeQueue}
+use Rattle.spec_kernel.specs.Places.{homeOf}
 use Rattle.spec_moves.specs.Moves.{threadIn, relocate}
 use Rattle.spec_moves.specs.Standing.{threadsOf, atHomeIn, Standing}
 use Rattle.spec_moves.proofs.Threads.{ready-home, relocate-standing, relocate-same, relocate-other, relocate-last, relocate-leaves}
 use Rattle.spec_moves.specs.States.{withThreads, each}
 use Rattle.spec_threads.specs.Threads.{wake}
-use Rattle.spec_laws.specs.Words.{withoutAll, Stopped, readied, OnlyThreads, OtherThreads}
+use Rattle.spec_laws.specs.Words.{withoutAll, Stopped, readied, OnlyThreads}
 use Rattle.spec_threads.proofs.LawsOfLists.{withoutAll-next}
 use Rattle.spec_threads.proofs.LawsOfHomes.{place-only, stopped-home, live-id, line-without, time-left}
 use Rattle.spec_laws.specs.OfThreads.{Woken}

@@ -1,8 +1,8 @@
 -- Time: what passes for the threads, the periodic semaphores, and the tick.
 use mathlib.Core.Path.{_≡_, refl, ap, _∙_}
-use mathlib.Core.Bool.{Bool, not}
-use mathlib.Core.List.{List, [], _∷_, _++_}
-use Prim.Native.Nat.{ℕ, zero, suc, _+_, _-_, _≤_, _<_}
+use mathlib.Core.Bool.{not}
+use mathlib.Core.List.{List, [], _∷_}
+use Prim.Native.Nat.{ℕ, zero, suc, _+_, _-_, _<_}
 use native.Mathlib.Nat.{add-zero, zero-add, add-suc, suc-add}
 use native.Mathlib.Omega.{arith}
 use lib.Dec.{eqb}
@@ -12,9 +12,6 @@ use borrow.Table.Steps.{cases}
 use Rattle.base_queue.specs.Lists.{keep, count}
 use Rattle.base_queue.specs.Queues.{items}
 use Rattle.base_queue.proofs.Counts.{count-keep, kept, keep-same}
-use Rattle.spec_kernel.specs.declared.records.Condition.{Condition}
-use Rattle.spec_kernel.specs.declared.records.Condition.the-variants.{Ready, Asleep, ForSemaphore, ForEvent, ForMessage}
-use Rattle.spec_kernel.specs.declared.records.Object.{Object}
 use Rattle.spec_kernel.specs.declared.records.Wake.{Wake}
 use Rattle.spec_kernel.specs.declared.records.Thread.{Thread}
 use Rattle.spec_kernel.specs.declared.records.Semaphore.{Semaphore}
@@ -22,7 +19,7 @@ use Rattle.spec_kernel.specs.declared.records.Kernel.{Kernel}
 use Rattle.spec_moves.specs.declared.parts.Threads.{Threads}
 use Rattle.spec_kernel.specs.Sizes.{semaphoreCount}
 use Rattle.spec_kernel.specs.Records.{thread, semaphore, noThread}
-use Rattle.spec_kernel.specs.Places.{homeOf, atHome, readyList, semaphoreQueue, timeQueue}
+use Rattle.spec_kernel.specs.Places.{homeOf, atHome, semaphoreQueue, timeQueue}
 use Rattle.spec_moves.specs.Moves.{threadIn}
 use Rattle.spec_moves.specs.Standing.{threadsOf, atHomeIn, Standing}
 use Rattle.spec_calls.specs.declared.call.Call.{Call}
@@ -30,7 +27,7 @@ use Rattle.spec_moves.specs.States.{withThreads, withSemaphores, withUptime, ea
 use Rattle.spec_threads.specs.Threads.{wake}
 use Rattle.spec_semaphores.specs.Semaphores.{raised, postTo, post}
 use Rattle.spec_time.specs.Time.{later, reasonAt, timeUp, due, aged, ageAll, timePasses, pulse, pulseFrom, tick}
-use Rattle.spec_laws.specs.Words.{withoutAll, Stopped, readied, ticking, pulsing}
+use Rattle.spec_laws.specs.Words.{withoutAll, Stopped, ticking, pulsing}
 use Rattle.spec_threads.proofs.LawsOfWaking.{AllWoken, each-woken}
 use Rattle.spec_semaphores.proofs.LawsOfSemaphores.{make-semaphore, post-posts}
 use Rattle.spec_laws.specs.OfTime.{isDue, TimePassed, Pulsed, Ticked}
@@ -166,7 +163,7 @@ module _ {A : Type 0} (g : Kernel → A) (threads : (p : Threads) (k : Kernel) �
 
   tick-hides : (k : Kernel) (c : Call) → g (tick k c) ≡ g (withUptime (later (k .uptime)) k)
   unfolding tick
-  tick-hides k c = pulses-hide 0 semaphoreCount _ ∙ threads _ _
+  tick-hides k c = pulses-hide 0 _ _ ∙ threads _ _
 
 -- the state when the time has passed for the threads, and when it is semaphore i's turn
 abbrev pub passed : Kernel → Kernel
