@@ -18,7 +18,7 @@ use Rattle.spec_kernel.specs.Conditions.{isReady, readyFor}
 use Rattle.spec_calls.specs.declared.call.Call.{Call}
 use Rattle.spec_calls.specs.Kinds.{noKind, kinds, kindOf, fromThread, theNew, theTaken}
 use Rattle.spec_refusals.specs.Named.{valueOf}
-use Rattle.spec_laws.specs.Words.{Stopped, Runnable}
+use Rattle.spec_threads.proofs.LawsOfHomes.{Stopped, Runnable}
 use Rattle.spec_laws.specs.Laws.{lawsOfKinds, noLaw, lawOf}
 use Rattle.proof_rules.proofs.Core.{Fits, Core, condition-of}
 use Rattle.proof_rules.proofs.Ends.{Before, sized}

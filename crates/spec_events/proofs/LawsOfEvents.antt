@@ -31,7 +31,7 @@ use Rattle.spec_calls.specs.declared.call.Call.{Call}
 use Rattle.spec_moves.specs.States.{withEvents, each}
 use Rattle.spec_events.specs.Events.{workOut, workOutFrom, workedOut, loadEvent, pendEvent, setBit, clearBit}
 use Rattle.spec_threads.specs.Threads.{wakeIn, wokenIn}
-use Rattle.spec_laws.specs.Words.{Runnable}
+use Rattle.spec_threads.proofs.LawsOfHomes.{Runnable}
 use Rattle.spec_threads.proofs.LawsOfLists.{keep-none}
 use Rattle.spec_threads.proofs.LawsOfHomes.{line-home, line-absent, line-once, line-stopped}
 use Rattle.spec_threads.proofs.LawsOfWaking.{Called, AllWoken, each-woken}

@@ -1,8 +1,8 @@
 -- The words of the laws: what a record becomes, and what a call leaves as it was. None of them is taken from the effects.
 use mathlib.Core.Path.{_≡_}
-use mathlib.Core.Bool.{true, false, not}
+use mathlib.Core.Bool.{true, not}
 use mathlib.Core.List.{List}
-use Prim.Native.Nat.{ℕ, _<_}
+use Prim.Native.Nat.{ℕ}
 use Rattle.base_queue.specs.Lists.{keep, has}
 use Rattle.spec_kernel.specs.declared.records.Condition.{Condition}
 use Rattle.spec_kernel.specs.declared.records.Condition.the-variants.{Ready}
@@ -12,21 +12,8 @@ use Rattle.spec_kernel.specs.declared.records.Semaphore.{Semaphore}
 use Rattle.spec_kernel.specs.declared.records.Message.{Message}
 use Rattle.spec_kernel.specs.declared.records.Kernel.{Kernel}
 use Rattle.spec_kernel.specs.Records.{thread, semaphore, message}
-use Rattle.spec_kernel.specs.Conditions.{isReady}
 
 -- ---- threads
--- a live thread that sleeps or waits; its priority is a byte
-pub record Stopped (r : Thread) : Type 0 where
-  pub live : r .live ≡ true
-  pub stopped : isReady r ≡ false
-  pub byte : r .priority < 256
-
--- a ready one, which has no ticks left
-pub record Runnable (r : Thread) : Type 0 where
-  pub ready : isReady r ≡ true
-  pub untimed : r .ticks ≡ 0
-  pub byte : r .priority < 256
-
 -- the record r, ready with no ticks left; the reason and the reply are new
 abbrev pub readied : Wake → ℕ → Thread → Thread
 readied why reply r =

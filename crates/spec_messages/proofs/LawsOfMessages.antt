@@ -28,7 +28,8 @@ use Rattle.spec_kernel.specs.Channels.{isFor, firstFor, nextMessage}
 use Rattle.spec_calls.specs.declared.call.Call.{Call}
 use Rattle.spec_moves.specs.States.{moveMessage}
 use Rattle.spec_messages.specs.Messages.{createMessage, destroyMessage, handOver, postMessage, receive, pendMessage}
-use Rattle.spec_laws.specs.Words.{Stopped, Runnable, handed, OnlyMessages}
+use Rattle.spec_laws.specs.Words.{handed, OnlyMessages}
+use Rattle.spec_threads.proofs.LawsOfHomes.{Stopped, Runnable}
 use Rattle.spec_threads.proofs.LawsOfLists.{keep-once, keep-missing, keep-absent, without-first}
 use Rattle.spec_threads.proofs.LawsOfHomes.{message-id, posted-once, posted-live}
 use Rattle.spec_threads.proofs.LawsOfWaking.{move-wakes}

@@ -22,7 +22,8 @@ use Rattle.spec_moves.specs.Standing.{threadsOf, Standing}
 use Rattle.spec_calls.specs.declared.call.Call.{Call}
 use Rattle.spec_moves.specs.States.{withSemaphore}
 use Rattle.spec_threads.specs.Threads.{wake}
-use Rattle.spec_laws.specs.Words.{Runnable, counted, pulsing}
+use Rattle.spec_laws.specs.Words.{counted, pulsing}
+use Rattle.spec_threads.proofs.LawsOfHomes.{Runnable}
 use Rattle.spec_laws.specs.OfThreads.{Woken}
 use Rattle.spec_laws.specs.OfSemaphores.{MadeSemaphore, PendedSemaphore, WokenBySemaphore, PostedSemaphore}
 use Rattle.spec_threads.proofs.LawsOfLists.{without-first}

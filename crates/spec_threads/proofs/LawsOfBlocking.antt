@@ -13,7 +13,8 @@ use Rattle.spec_moves.specs.Standing.{threadsOf, Standing}
 use Rattle.spec_moves.proofs.Threads.{ready-home, relocate-same, relocate-other, relocate-leaves}
 use Rattle.spec_calls.specs.declared.call.Call.{Call}
 use Rattle.spec_threads.specs.Threads.{block, sleep}
-use Rattle.spec_laws.specs.Words.{Runnable, stopped}
+use Rattle.spec_laws.specs.Words.{stopped}
+use Rattle.spec_threads.proofs.LawsOfHomes.{Runnable}
 use Rattle.spec_threads.proofs.LawsOfHomes.{place-only, live-home, ready-live, live-id}
 use Rattle.spec_threads.proofs.LawsOfHomes.{line-without, time-stays, time-joins, line-joins}
 use Rattle.spec_laws.specs.OfThreads.{isLower, Blocked}

@@ -26,8 +26,21 @@ use Rattle.spec_moves.specs.Standing.{atHomeIn, messageIn, Standing, Filed}
 use Rattle.spec_moves.proofs.Rejoined.{Table, table-joins}
 use Rattle.spec_moves.proofs.Threads.{ready-home, relocate-standing, relocate-same, relocate-joins, relocate-time-order}
 use Rattle.spec_moves.specs.States.{moveThread}
-use Rattle.spec_laws.specs.Words.{Stopped, OnlyThreads}
+use Rattle.spec_laws.specs.Words.{OnlyThreads}
 use Rattle.spec_threads.proofs.LawsOfLists.{live-inside, keep-once, keep-missing, keep-absent, behind-same}
+
+-- ---- what the laws ask of a thread
+-- a live thread that sleeps or waits; its priority is a byte
+pub record Stopped (r : Thread) : Type 0 where
+  pub live : r .live ≡ true
+  pub stopped : isReady r ≡ false
+  pub byte : r .priority < 256
+
+-- a ready one, which has no ticks left
+pub record Runnable (r : Thread) : Type 0 where
+  pub ready : isReady r ≡ true
+  pub untimed : r .ticks ≡ 0
+  pub byte : r .priority < 256
 
 -- a test of two numbers, each with as much in front
 ltb-shift : (n a b : ℕ) → ltb (n + a) (n + b) ≡ ltb a b

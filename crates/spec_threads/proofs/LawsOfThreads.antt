@@ -22,7 +22,8 @@ use Rattle.spec_kernel.proofs.LowestFree.{free-is-free, free-is-lowest}
 use Rattle.spec_calls.specs.declared.call.Call.{Call}
 use Rattle.spec_moves.specs.States.{moveThread}
 use Rattle.spec_threads.specs.Threads.{createThread, setPriority, resetPriority, yielded}
-use Rattle.spec_laws.specs.Words.{Runnable, prioritized, newborn}
+use Rattle.spec_laws.specs.Words.{prioritized, newborn}
+use Rattle.spec_threads.proofs.LawsOfHomes.{Runnable}
 use Rattle.spec_threads.proofs.LawsOfHomes.{place-only, live-home, ready-live, live-id}
 use Rattle.spec_threads.proofs.LawsOfHomes.{line-without, line-nowhere, time-stays, line-joins}
 use Rattle.spec_laws.specs.OfThreads.{Created, Yielded, Reprioritized}

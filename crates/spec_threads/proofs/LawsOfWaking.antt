@@ -22,7 +22,8 @@ use Rattle.spec_moves.specs.Standing.{threadsOf, atHomeIn, Standing}
 use Rattle.spec_moves.proofs.Threads.{ready-home, relocate-standing, relocate-same, relocate-other, relocate-last, relocate-leaves}
 use Rattle.spec_moves.specs.States.{withThreads, each}
 use Rattle.spec_threads.specs.Threads.{wake}
-use Rattle.spec_laws.specs.Words.{withoutAll, Stopped, readied, OnlyThreads}
+use Rattle.spec_laws.specs.Words.{withoutAll, readied, OnlyThreads}
+use Rattle.spec_threads.proofs.LawsOfHomes.{Stopped}
 use Rattle.spec_threads.proofs.LawsOfLists.{withoutAll-next}
 use Rattle.spec_threads.proofs.LawsOfHomes.{place-only, stopped-home, live-id, line-without, time-left}
 use Rattle.spec_laws.specs.OfThreads.{Woken}

@@ -27,7 +27,8 @@ use Rattle.spec_moves.specs.States.{withThreads, withSemaphores, withUptime, ea
 use Rattle.spec_threads.specs.Threads.{wake}
 use Rattle.spec_semaphores.specs.Semaphores.{raised, postTo, post}
 use Rattle.spec_time.specs.Time.{later, reasonAt, timeUp, due, aged, ageAll, timePasses, pulse, pulseFrom, tick}
-use Rattle.spec_laws.specs.Words.{withoutAll, Stopped, ticking, pulsing}
+use Rattle.spec_laws.specs.Words.{withoutAll, ticking, pulsing}
+use Rattle.spec_threads.proofs.LawsOfHomes.{Stopped}
 use Rattle.spec_threads.proofs.LawsOfWaking.{AllWoken, each-woken}
 use Rattle.spec_semaphores.proofs.LawsOfSemaphores.{make-semaphore, post-posts}
 use Rattle.spec_laws.specs.OfTime.{isDue, TimePassed, Pulsed, Ticked}
