@@ -24,8 +24,10 @@ use Rattle.spec_moves.specs.States.{scheduled}
 use Rattle.spec_effects.specs.Effects.{effect}
 use Rattle.proof_rules.proofs.Kept.{rules-kept}
 use Rattle.spec_notes.specs.Within.{OfTypes}
-use Rattle.spec_notes.specs.Counts.{mostBytes}
+use Rattle.spec_notes.specs.Counts.{Differ, mostBytes}
+use Rattle.spec_notes.proofs.Counting.{threadsDiffer, semaphoresDiffer, messagesDiffer}
 use Rattle.spec_notes.proofs.Lengths.{note-short}
+use Rattle.spec_notes.proofs.Differing.{differ}
 use Rattle.spec_notes.proofs.Yields.{call-within}
 use Rattle.spec_notes.proofs.WithinKept.{within-kept}
 use Rattle.spec_answers.specs.declared.Logged.{Logged}
@@ -186,9 +188,14 @@ module _ (k : Kernel) (bytes log : List ℕ) (used : ℕ) where
       notes-are-short : NotesAreShort k bytes r
       unfolding NotesAreShort noteFor
       notes-are-short =
-          one-of-four (λ x _ _ _. x .answer .number ≡ 0 → length note ≤ mostBytes k (x .kernel))
+          one-of-four
+          (λ x _ _ _. x .answer .number ≡ 0
+          → ((T : ℕ) × (S : ℕ) × (M : ℕ) × Differ k (x .kernel) T S M × (length note ≤ mostBytes T S M)))
           (λ e n _ _. let Z = T .sized in
-          note-short k bytes (B .0) Z (rules-mean k Z e) (T .within) (call-within bytes (B .1)) n)
+          let R = rules-mean k Z e in
+          let k′ = stateAfter k bytes in
+          let (Z′, R′) = rules-kept k (callOf bytes) Z R n in
+          (threadsDiffer k k′, semaphoresDiffer k k′, messagesDiffer k k′, differ k k′ Z R Z′ R′, note-short k bytes (B .0) Z R n))
           (λ _ _ _ z. absurd (omega arith)) (λ _ n z. absurd (n z)) (λ _ z. absurd (omega arith))
 
 -- ---- the promises

@@ -12,7 +12,7 @@ use Rattle.spec_kernel.specs.Runner.{firstReady}
 use Rattle.spec_rules.specs.Rules.{Rules}
 use Rattle.spec_rules.specs.Tests.{keepsRules}
 use Rattle.spec_notes.specs.Within.{OfTypes}
-use Rattle.spec_notes.specs.Counts.{mostBytes}
+use Rattle.spec_notes.specs.Counts.{Differ, mostBytes}
 use Rattle.spec_notes.specs.Undo.{lastNote, Yields}
 use Rattle.spec_answers.specs.declared.Logged.{Logged}
 use Rattle.spec_answers.specs.Steps.{answer, called}
@@ -76,9 +76,11 @@ NoteIsWritten k bytes log used r log′ =
     × (log′ ≡ take used log ++ (noteFor k bytes ++ drop (used + length (noteFor k bytes)) log)) × (length log′ ≡ length log)
     × (r .used ≡ used + length (noteFor k bytes))
 
--- No note is longer than the two states allow [01, notes 4].
+-- A note has at most 96 + 24·T + 16·S + 16·M bytes, where T, S and M records are not equal in the two states [01, notes 4].
 unfoldable pub NotesAreShort : Kernel → List ℕ → Logged → Type 0
-NotesAreShort k bytes r = r .answer .number ≡ 0 → length (noteFor k bytes) ≤ mostBytes k (r .kernel)
+NotesAreShort k bytes r =
+    r .answer .number ≡ 0
+    → ((T : ℕ) × (S : ℕ) × (M : ℕ) × Differ k (r .kernel) T S M × (length (noteFor k bytes) ≤ mostBytes T S M))
 
 -- ---- What is promised of a call on a state, with a log of which so much is used: r comes back, and log′ is what the log holds then.
 pub record Answered (k : Kernel) (bytes log : List ℕ) (used : ℕ) (r : Logged) (log′ : List ℕ) : Type 0 where
