@@ -1,18 +1,19 @@
 -- What is promised of one undo: a line for each type of Promises, and the record of them.
-use Prim.Native.Nat.{ℕ, _+_, _-_}
+use Prim.Native.Nat.{ℕ, _+_, _-_, _≤_, _<_}
 use mathlib.Core.Path.{_≡_, refl, sym, ap, _∙_}
-use mathlib.Core.Bool.{true, false, cond, false≢true}
+use mathlib.Core.Bool.{true, false, and-eq-true-iff, false≢true}
 use mathlib.Core.List.{List}
-use mathlib.Core.Logic.{_↔_}
+use mathlib.Core.Logic.{_↔_, ⊎-elim}
 use native.Mathlib.Omega.{arith}
 use lib.ListN.{length}
+use borrow.Author.Tests.{leb-true}
 use borrow.Table.Steps.{cases}
 use Rattle.spec_kernel.specs.declared.records.Kernel.{Kernel}
 use Rattle.spec_rules.specs.Rules.{Rules}
 use Rattle.spec_rules.specs.Tests.{keepsRules}
 use Rattle.spec_rules.proofs.Exactly.{rules-mean, rules-hold}
 use Rattle.spec_notes.specs.Within.{OfTypes, AreBytes}
-use Rattle.spec_notes.specs.Undo.{lastLength, lastNote, Yields}
+use Rattle.spec_notes.specs.Undo.{lastLength, hasLast, lastNote, Yields}
 use Rattle.spec_notes.specs.Undoes.{undoes}
 use Rattle.spec_notes.proofs.Yields.{yields-kept}
 use Rattle.spec_notes.proofs.Undoing.{state-found, last-sizes, yields-last, yields-undoes, undo-exactly}
@@ -20,7 +21,8 @@ use Rattle.spec_answers.specs.declared.Answer.{Answer}
 use Rattle.spec_answers.specs.declared.Logged.{Logged}
 use Rattle.spec_answers.specs.Steps.{answer}
 use Rattle.spec_answers.specs.Logs.{logged, backAt, undone}
-use Rattle.spec_answers.specs.Promises.{BrokenIsRefused, UndoneExactly, UndoneIsThat, UndoRefused, BrokenIsLeft, Undone, OneUndo}
+use Rattle.spec_answers.specs.Promises.{BrokenIsRefused, BrokenIsLeft, UndoneExactly, UndoneIsThat, UndoRefused, NothingToUndo}
+use Rattle.spec_answers.specs.Promises.{Undone, OneUndo}
 
 module _ (k : Kernel) (log : List ℕ) (used : ℕ) where
   -- the last note is undone, or it isn't, or the state breaks a rule
@@ -39,6 +41,14 @@ module _ (k : Kernel) (log : List ℕ) (used : ℕ) where
   pub not-undone : keepsRules k ≡ true → undoes k log used ≡ false → undone k log used ≡ logged (answer 15 255 (k .runner)) k used
   unfolding undone
   not-undone e u = rw (e, u)
+
+  -- a last note is there only where something is used, and no more than the log has
+  last-there : hasLast log used ≡ true → (0 < used) × (used ≤ length log)
+  unfolding hasLast
+  last-there h =
+      let (((a, b), _), _) = simp and-eq-true-iff at h in
+      let a′ = leb-true 2 used a in
+      (omega arith, leb-true used (length log) b)
 
   -- a state and a call that yield the last note with this state are found
   pub undone-is-that : UndoneIsThat k log used (undone k log used)
@@ -76,7 +86,7 @@ module _ (k : Kernel) (log : List ℕ) (used : ℕ) where
       unfolding UndoneExactly UndoneIsThat
       undone-exactly = (
         one-of-three (λ x. x .answer .number ≡ 0 → (before : Kernel) × (bytes : List ℕ) × Yields before bytes k (lastNote log used))
-        (λ e u _. was-yielded e u) (λ _ _ z. absurd (omega arith)) (λ _ z. absurd (omega arith)),
+            (λ e u _. was-yielded e u) (λ _ _ z. absurd (omega arith)) (λ _ z. absurd (omega arith)),
         λ y. ap (λ (x : Answer). x .number) (undone-is-that (y .0) (y .1) (y .2) .0),
       )
 
@@ -86,6 +96,12 @@ module _ (k : Kernel) (log : List ℕ) (used : ℕ) where
           one-of-three (λ x. x ≡ logged (answer 15 255 (k .runner)) k used)
           (λ e u. let (b, bytes, Y) = was-yielded e u in absurd (none b bytes Y)) (λ _ _. refl)
           (λ e. absurd (false≢true (sym e ∙ rules-hold k (T .sized) R)))
+
+      nothing-to-undo : NothingToUndo k log used (undone k log used)
+      unfolding NothingToUndo UndoRefused
+      nothing-to-undo R empty =
+          undo-refused R
+          (λ before bytes Y. let (a, b) = last-there (yields-last log used Y) in ⊎-elim (λ z. omega arith) (λ z. omega arith) empty)
 
 -- ---- the promises
 pub undoes-so : (k : Kernel) (log : List ℕ) (used : ℕ) → OfTypes k → AreBytes log → Undone k log used (undone k log used)
@@ -97,6 +113,7 @@ undoes-so k log used T B =
       undoneExactly = undone-exactly k log used T B;
       undoneIsThat = undone-is-that k log used;
       undoRefused = undo-refused k log used T B;
+      nothingToUndo = nothing-to-undo k log used T B;
     }
 
 pub one-undo : OneUndo

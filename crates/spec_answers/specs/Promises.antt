@@ -5,7 +5,7 @@ use Prim.Native.Nat.{ℕ, _+_, _≤_, _<_}
 use mathlib.Core.Path.{_≡_}
 use mathlib.Core.Bool.{Bool, true, false}
 use mathlib.Core.List.{List, [], _++_}
-use mathlib.Core.Logic.{_↔_}
+use mathlib.Core.Logic.{_↔_, _⊎_}
 use lib.ListN.{length, getD, take, drop}
 use Rattle.spec_kernel.specs.declared.records.Kernel.{Kernel}
 use Rattle.spec_kernel.specs.Runner.{firstReady}
@@ -126,6 +126,10 @@ UndoRefused k log used r =
     Rules k → ((before : Kernel) (bytes : List ℕ) → Yields before bytes k (lastNote log used) → ⊥)
     → r ≡ logged (answer 15 255 (k .runner)) k used
 
+-- So it is on an undamaged state where the log is empty, and where more is said to be used than the log has [01, answers 6, 7].
+unfoldable pub NothingToUndo : Kernel → List ℕ → ℕ → Logged → Type 0
+NothingToUndo k log used r = Rules k → (used ≡ 0) ⊎ (length log < used) → r ≡ logged (answer 15 255 (k .runner)) k used
+
 -- A state that breaks a rule is left as it is, with 255 for the value and for the runner [01, answers 2, 3].
 unfoldable pub BrokenIsLeft : Kernel → ℕ → Logged → Type 0
 BrokenIsLeft k used r = (Rules k → ⊥) → r ≡ logged (answer 14 255 255) k used
@@ -138,6 +142,7 @@ pub record Undone (k : Kernel) (log : List ℕ) (used : ℕ) (r : Logged) : Type
   pub undoneExactly : UndoneExactly k log used r
   pub undoneIsThat : UndoneIsThat k log used r
   pub undoRefused : UndoRefused k log used r
+  pub nothingToUndo : NothingToUndo k log used r
 
 -- ---- Two results that a contract allows are equal, and so are the two logs [01, promises 2].
 unfoldable pub OneResult : Type 0
