@@ -13,7 +13,7 @@ use Rattle.spec_notes.proofs.Undoing.{state-found}
 use Rattle.spec_answers.specs.Steps.{called}
 use Rattle.spec_answers.specs.Logs.{noteFor}
 use Rattle.spec_answers.specs.Runs.{AreRecords, replayed, Accepts, notes, backTimes, Run, Follows, Step, call, undo}
-use Rattle.spec_answers.specs.Runs.{AreSteps, after, afterAll, counted, afterCalls, acceptedOf, acceptedFrom}
+use Rattle.spec_answers.specs.Runs.{AreSteps, afterAll, counted, afterCalls, acceptedOf, acceptedFrom}
 use Rattle.spec_answers.specs.Runs.{ledBack, stoodAt, undoneTimes}
 use Rattle.spec_answers.specs.Promises.{RunsFollow, LogLeadsBack, LedBetween, NotesLeadBack, AnyMix}
 use Rattle.spec_answers.proofs.Following.{Kept, accepted-yields, replayed-kept, call-follows, run-kept}

@@ -1,5 +1,5 @@
 -- What is promised of one undo: a line for each type of Promises, and the record of them.
-use Prim.Native.Nat.{ℕ, _+_, _-_, _≤_, _<_}
+use Prim.Native.Nat.{ℕ, _-_, _≤_, _<_}
 use mathlib.Core.Path.{_≡_, refl, sym, ap, _∙_}
 use mathlib.Core.Bool.{true, false, and-eq-true-iff, false≢true}
 use mathlib.Core.List.{List}

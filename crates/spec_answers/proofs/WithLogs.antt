@@ -7,7 +7,7 @@ use mathlib.Core.List.{List, [], _∷_}
 use native.Mathlib.Omega.{arith}
 use lib.Dec.{eqb}
 use lib.ListN.{length}
-use borrow.Author.Tests.{eqb-true, eqb-false, eq-eqb, ne-eqb, leb-true, not-true}
+use borrow.Author.Tests.{eqb-true, eqb-false, eq-eqb, ne-eqb, leb-true}
 use borrow.Table.Steps.{cases}
 use Rattle.base_bytes.specs.Logs.{room, withNote, noted, shown}
 use Rattle.base_bytes.proofs.Appending.{noted-room, noted-length}
@@ -57,8 +57,8 @@ module _ (k : Kernel) (bytes log : List ℕ) (used : ℕ) where
   abbrev note : List ℕ
   note = noteFor k bytes
 
-  abbrev r : Logged
-  r = calledWith k bytes log used
+  abbrev given : Logged
+  given = calledWith k bytes log used
 
   abbrev log′ : List ℕ
   log′ = logCalled k bytes log used
@@ -83,19 +83,19 @@ module _ (k : Kernel) (bytes log : List ℕ) (used : ℕ) where
         → ((number ≡ 0 → ⊥) → Left number (refused number k))
         → P (recorded k bytes log used) (logAfter k bytes log used) (partAfter k bytes log used) (step k (callOf bytes))
     unfolding recorded logAfter partAfter step noted shown
-    one-of-three a f r =
+    one-of-three a f n =
         cases (eqb number 0)
         (λ e. let z = eqb-true number 0 e in cases (room log used note) (λ b. rw (e, b) (a z b)) (λ b. rw (e, b) (f z b)))
-        (λ e. rw e (r (eqb-false number 0 e)))
+        (λ e. rw e (n (eqb-false number 0 e)))
 
     -- or the state breaks a rule
     pub one-of-four : (keepsRules k ≡ true → number ≡ 0 → room log used note ≡ true → Written)
         → (keepsRules k ≡ true → number ≡ 0 → room log used note ≡ false → Left 13 (accepted k (callOf bytes)))
         → (keepsRules k ≡ true → (number ≡ 0 → ⊥) → Left number (refused number k))
         → (keepsRules k ≡ false → P (logged (answer 14 255 255) k used) log [] (record { answer = answer 14 255 255; kernel = k }))
-        → P r log′ part (called k bytes)
+        → P given log′ part (called k bytes)
     unfolding calledWith logCalled partCalled called
-    one-of-four a f r b = cases (keepsRules k) (λ e. rw e (one-of-three (a e) (f e) (r e))) (λ e. rw e (b e))
+    one-of-four a f n b = cases (keepsRules k) (λ e. rw e (one-of-three (a e) (f e) (n e))) (λ e. rw e (b e))
 
   -- ---- which number
   -- on a state that keeps the rules 14 isn't given, and 13 where the twelve don't apply
@@ -105,21 +105,21 @@ module _ (k : Kernel) (bytes log : List ℕ) (used : ℕ) where
   first-of-kept e = rw e (first-append (refusals k (callOf bytes)) ((13, not (room log used note)) ∷ []) refl)
 
   -- the number of the answer is the first of the table that applies
-  number-first : r .answer .number ≡ firstThatApplies (numbersOf k bytes log used)
+  number-first : given .answer .number ≡ firstThatApplies (numbersOf k bytes log used)
   number-first =
       one-of-four (λ x _ _ _. x .answer .number ≡ firstThatApplies (numbersOf k bytes log used))
       (λ e n b. rw (first-of-kept e, eq-eqb number 0 n, b)) (λ e n b. rw (first-of-kept e, eq-eqb number 0 n, b))
       (λ e n. rw (first-of-kept e, ne-eqb number 0 n)) (λ e. rw e)
 
-  refused-exactly : RefusedExactly (numbersOf k bytes log used) r
+  refused-exactly : RefusedExactly (numbersOf k bytes log used) given
   unfolding RefusedExactly
   refused-exactly i h = rw number-first (first-exactly (numbersOf k bytes log used) refl i h)
 
-  accepted-exactly : AcceptedExactly (numbersOf k bytes log used) r
+  accepted-exactly : AcceptedExactly (numbersOf k bytes log used) given
   unfolding AcceptedExactly
   accepted-exactly = rw number-first (none-exactly (numbersOf k bytes log used) refl)
 
-  refusal-changes-nothing : RefusalChangesNothing k log used r log′
+  refusal-changes-nothing : RefusalChangesNothing k log used given log′
   unfolding RefusalChangesNothing
   refusal-changes-nothing =
       one-of-four
@@ -131,7 +131,7 @@ module _ (k : Kernel) (bytes log : List ℕ) (used : ℕ) where
       (λ _ _ _. (refl, refl, refl, refl, λ _. refl, λ z. absurd (never-14 k (callOf bytes) z)))
       (λ _ _. (refl, refl, refl, refl, λ n. absurd (n refl), λ _. refl))
 
-  note-is-written : NoteIsWritten k bytes log used r log′
+  note-is-written : NoteIsWritten k bytes log used given log′
   unfolding NoteIsWritten
   note-is-written =
       one-of-four
@@ -146,7 +146,7 @@ module _ (k : Kernel) (bytes log : List ℕ) (used : ℕ) where
     unfolding TestedExactly
     tested-exactly = (rules-mean k (T .sized), rules-hold k (T .sized))
 
-    broken-is-refused : BrokenIsRefused k r
+    broken-is-refused : BrokenIsRefused k given
     unfolding BrokenIsRefused
     broken-is-refused =
         let Z = T .sized in
@@ -156,13 +156,13 @@ module _ (k : Kernel) (bytes log : List ℕ) (used : ℕ) where
         (λ e _. (λ z. absurd (never-14 k (callOf bytes) z), λ n. absurd (n (rules-mean k Z e))))
         (λ e. (λ _ R. false≢true (sym e ∙ rules-hold k Z R), λ _. refl))
 
-    runner-is-answered : RunnerIsAnswered k r
+    runner-is-answered : RunnerIsAnswered k given
     unfolding RunnerIsAnswered
     runner-is-answered =
         one-of-four (λ x _ _ _. Rules k → x .answer .runner ≡ x .kernel .runner)
         (λ _ _ _ _. refl) (λ _ _ _ _. refl) (λ _ _ _. refl) (λ e R. absurd (false≢true (sym e ∙ rules-hold k (T .sized) R)))
 
-    runner-stays-in-region : RunnerStaysInRegion k r
+    runner-stays-in-region : RunnerStaysInRegion k given
     unfolding RunnerStaysInRegion scheduled
     runner-stays-in-region =
         let n = effect k (callOf bytes) in
@@ -171,7 +171,7 @@ module _ (k : Kernel) (bytes log : List ℕ) (used : ℕ) where
         (λ _ _ _ _ _. refl) (λ _ _ _ _. refl) (λ _ _ _. refl)
 
     module _ (B : IsRecord bytes) where
-      rules-are-kept : RulesAreKept k r
+      rules-are-kept : RulesAreKept k given
       unfolding RulesAreKept
       rules-are-kept =
           let Z = T .sized in
@@ -181,11 +181,11 @@ module _ (k : Kernel) (bytes log : List ℕ) (used : ℕ) where
           (record { sized = Z′; within = within-kept k c Z R (T .within) (call-within bytes (B .1)) n }, R′))
           (λ _ _ _ R. (T, R)) (λ _ _ R. (T, R)) (λ _ R. (T, R))
 
-      first-ready-runs : FirstReadyRuns k r
+      first-ready-runs : FirstReadyRuns k given
       unfolding FirstReadyRuns RulesAreKept FirstRuns
       first-ready-runs R = rules-are-kept R .1 .firstRuns
 
-      notes-are-short : NotesAreShort k bytes r
+      notes-are-short : NotesAreShort k bytes given
       unfolding NotesAreShort noteFor
       notes-are-short =
           one-of-four

@@ -1,12 +1,10 @@
 -- The tests count the records that are not equal: T, S and M of document 01.
 use Prim.Native.Nat.{ℕ}
 use mathlib.Core.Path.{_≡_, sym, _∙_}
-use mathlib.Core.Bool.{Bool, true, false, not, false≢true}
+use mathlib.Core.Bool.{Bool, true, not, false≢true}
 use mathlib.Core.Logic.{_↔_}
 use borrow.Author.Tests.{not-true}
 use borrow.Table.Steps.{cases}
-use Rattle.spec_kernel.specs.declared.records.Thread.{Thread}
-use Rattle.spec_kernel.specs.declared.records.Semaphore.{Semaphore}
 use Rattle.spec_kernel.specs.declared.records.Message.{Message}
 use Rattle.spec_kernel.specs.declared.records.Kernel.{Kernel}
 use Rattle.spec_kernel.specs.Records.{thread, semaphore, message}
