@@ -7,13 +7,12 @@ use lib.ListN.{length, take, drop, take-append-drop, length-append, length-take,
 use lib.Seq.{take-at, length-take-le}
 use borrow.Author.Tests.{ne-eqb, leb-true}
 use Rattle.base_bytes.specs.Logs.{withNote}
-use Rattle.base_bytes.proofs.Appending.{noted-room, noted-length}
 use Rattle.spec_kernel.specs.declared.records.Kernel.{Kernel}
-use Rattle.spec_rules.specs.Rules.{Sized, Rules}
+use Rattle.spec_rules.specs.Rules.{Rules}
 use Rattle.spec_rules.proofs.Exactly.{rules-hold}
 use Rattle.spec_calls.specs.Calls.{callOf}
 use Rattle.spec_refusals.specs.Refusals.{numberOf}
-use Rattle.spec_notes.specs.Within.{Within}
+use Rattle.spec_notes.specs.Within.{OfTypes}
 use Rattle.spec_notes.specs.Undo.{hasLast, lastNote, Yields}
 use Rattle.spec_notes.specs.Undoes.{undoes}
 use Rattle.spec_notes.proofs.FramesRead.{record-back, last-back}
@@ -24,33 +23,32 @@ use Rattle.spec_answers.specs.Runs.{IsRecord, replayed, Accepts, notes, 
 use Rattle.spec_answers.specs.Runs.{given, after, counting, ledBack, stoodAt}
 use Rattle.spec_answers.specs.Promises.{UndoneIsThat}
 use Rattle.spec_answers.proofs.Kept.{either}
-use Rattle.spec_answers.proofs.WithLogs.{one-of-four, not-undone, undone-is-that}
+use Rattle.spec_answers.proofs.WithLogs.{with-length, one-of-four}
+use Rattle.spec_answers.proofs.Undos.{not-undone, undone-is-that}
 
 -- what every state of a run is
 abbrev pub Kept : Kernel → Type 0
-Kept k = Sized k × Rules k × Within k
+Kept k = OfTypes k × Rules k
 
 -- ---- a list of calls
 -- an accepted call yields the next state and its note
 pub accepted-yields : (k : Kernel) (bytes : List ℕ) → Kept k → IsRecord bytes → called k bytes .answer .number ≡ 0
     → Yields k bytes (called k bytes .kernel) (noteFor k bytes)
 unfolding noteFor
-accepted-yields k bytes (Z, R, W) (n, b) =
-    either k bytes (rules-hold k Z R) (λ s. s .answer .number ≡ 0 → Yields k bytes (s .kernel) (noteFor k bytes))
-    (λ a _. record { sized = Z; inside = W; rules = R; sixteen = n; small = b; accepted = a; state = refl; noted = refl })
+accepted-yields k bytes (T, R) (n, b) =
+    either k bytes (rules-hold k (T .sized) R) (λ s. s .answer .number ≡ 0 → Yields k bytes (s .kernel) (noteFor k bytes))
+    (λ a _. record { sized = T .sized; inside = T .within; rules = R; sixteen = n; small = b; accepted = a; state = refl; noted = refl })
     (λ r a. absurd (r a))
 
 -- the state after accepted calls is as the one before them
 pub replayed-kept : (k : Kernel) (calls : List (List ℕ)) → Kept k → Accepts k calls → Kept (replayed k calls)
 replayed-kept k [] K _ = K
 replayed-kept k (bytes ∷ calls) K (b, a, A) =
-    let (Z, R, W, _) = yields-kept (accepted-yields (replayed k calls) bytes (replayed-kept k calls K A) b a) in (Z, R, W)
+    let (Z, R, W, _) = yields-kept (accepted-yields (replayed k calls) bytes (replayed-kept k calls K A) b a) in
+    (record { sized = Z; within = W }, R)
 
 -- ---- a log with a note behind its used part
 module _ (log : List ℕ) (used : ℕ) (note : List ℕ) (h : used + length note ≤ length log) where
-  with-length : length (withNote log used note) ≡ length log
-  with-length = rw (← noted-room log used note h) (noted-length log used note)
-
   with-used : take (used + length note) (withNote log used note) ≡ take used log ++ note
   with-used =
       let e : length (take used log ++ note) ≡ used + length note = rw (length-append, length-take-le used log (omega arith)) in
@@ -75,7 +73,7 @@ module _ (start : Run) (gone : List (List ℕ)) where
       (λ x log _ s. called k bytes ≡ s
       → Follows start gone (counting calls (call bytes) (x .answer .number))
       (record { kernel = x .kernel; log = log; used = x .used }))
-      (λ _ room e. let h = leb-true (r .used + length note) (length (r .log)) room in
+      (λ _ _ room e. let h = leb-true (r .used + length note) (length (r .log)) room in
       let u = F .ends in
       let c : called (replayed first calls) bytes ≡ accepted k (callOf bytes) = rw (← F .state) e in
       record {
@@ -87,7 +85,7 @@ module _ (start : Run) (gone : List (List ℕ)) where
         stands =
             rw (← F .state) (with-used (r .log) (r .used) note h ∙ ap (λ (l : List ℕ). l ++ note) (F .stands) ∙ append-assoc front _ note);
       })
-      (λ _ _ _. F) (λ n _. rw (ne-eqb (numberOf k (callOf bytes)) 0 n) F) (λ _. F) refl
+      (λ _ _ _ _. F) (λ _ n _. rw (ne-eqb (numberOf k (callOf bytes)) 0 n) F) (λ _ _. F) refl
 
   module _ (K : Kept (start .kernel)) where
     -- its state is as that of the start
@@ -143,8 +141,7 @@ module _ (start : Run) (gone : List (List ℕ)) where
           let (b, a, _) = F .accepted in
           let Y : Yields q bytes (r .kernel) (lastNote (r .log) (r .used)) =
           rw (F .state, last-is) (accepted-yields q bytes (run-kept run-follows) b a) in
-          let (Z, R, _) = run-kept F in
-          let (n, k, u) = undone-is-that q (r .kernel) bytes (r .log) (r .used) Z R Y in
+          let (n, k, u) = undone-is-that (r .kernel) (r .log) (r .used) q bytes Y in
           let v = rw last-is at u in
           let (s, t) = size in
           let l : undone (r .kernel) (r .log) (r .used) .used ≡ stoodAt start gone calls [] .used = omega arith in
@@ -160,6 +157,6 @@ module _ (start : Run) (gone : List (List ℕ)) where
     unfolding undoes hasLast
     any-undo-follows {calls = []} {r = r} z F =
         let u : r .used ≡ 0 = rw (F .ends, z) in
-        let (Z, R, _) = run-kept F in
-        rw (not-undone (r .kernel) (r .log) (r .used) (rw u), rules-hold (r .kernel) Z R) F
+        let (T, R) = run-kept F in
+        rw (not-undone (r .kernel) (r .log) (r .used) (rules-hold (r .kernel) (T .sized) R) (rw u)) F
     any-undo-follows {calls = bytes ∷ calls} z F = rw (undo-given F) (run-follows F)

@@ -13,7 +13,7 @@ use Rattle.spec_notes.proofs.Undoing.{state-found}
 use Rattle.spec_answers.specs.Steps.{called}
 use Rattle.spec_answers.specs.Logs.{noteFor}
 use Rattle.spec_answers.specs.Runs.{AreRecords, replayed, Accepts, notes, backTimes, Run, Follows, Step, call, undo}
-use Rattle.spec_answers.specs.Runs.{AreSteps, after, afterAll, counted, afterCalls, acceptedOf, acceptedFrom}
+use Rattle.spec_answers.specs.Runs.{AreSteps, afterAll, counted, afterCalls, acceptedOf, acceptedFrom}
 use Rattle.spec_answers.specs.Runs.{ledBack, stoodAt, undoneTimes}
 use Rattle.spec_answers.specs.Promises.{RunsFollow, LogLeadsBack, LedBetween, NotesLeadBack, AnyMix}
 use Rattle.spec_answers.proofs.Following.{Kept, accepted-yields, replayed-kept, call-follows, run-kept}
@@ -54,20 +54,20 @@ runs-follow start records b = calls-follow start [] records b (begun start)
 
 pub any-mix : AnyMix
 unfolding AnyMix
-any-mix start steps Z R W z b = steps-follow start [] (Z, R, W) steps z b (begun start)
+any-mix start steps T R z b = steps-follow start [] (T, R) steps z b (begun start)
 
 pub log-leads-back : LogLeadsBack
 unfolding LogLeadsBack RunsFollow
-log-leads-back start records j Z R W b h =
+log-leads-back start records j T R b h =
     let l = acceptedOf start records in
     let F = rw (← take-append-drop j l) at (runs-follow start records b) in
-    rw (length-take-le j l h) at (times-undone start [] (Z, R, W) (drop j l) (take j l) F)
+    rw (length-take-le j l h) at (times-undone start [] (T, R) (drop j l) (take j l) F)
 
 pub led-between : LedBetween
 unfolding LedBetween RunsFollow
-led-between start earlier later Z R W b c =
+led-between start earlier later T R b c =
     let between : Run = afterCalls start earlier in
-    let K = run-kept start [] (Z, R, W) (runs-follow start earlier b) in
+    let K = run-kept start [] (T, R) (runs-follow start earlier b) in
     let F = rw (← append-nil (acceptedOf between later)) at (runs-follow between later c) in
     let u : between .used + 0 ≡ between .used = omega arith in
     rw u at (times-undone between [] K [] (acceptedOf between later) F)
@@ -93,4 +93,4 @@ lead-back k (bytes ∷ calls) (suc j) K (b, a, A) =
 
 pub notes-lead-back : NotesLeadBack
 unfolding NotesLeadBack
-notes-lead-back k records j Z R W b = lead-back k (acceptedFrom k [] records) j (Z, R, W) (accepts-from k [] records b tt)
+notes-lead-back k records j T R b = lead-back k (acceptedFrom k [] records) j (T, R) (accepts-from k [] records b tt)

@@ -1,14 +1,14 @@
 -- A call with a lent log, and the undo of the last note: what comes back, the next state, the used length, and the log.
 use Prim.Native.Nat.{ℕ, _+_, _-_}
-use mathlib.Core.Bool.{cond}
-use mathlib.Core.List.{List, []}
+use mathlib.Core.Bool.{Bool, not, cond}
+use mathlib.Core.List.{List, [], _∷_, _++_}
 use lib.Dec.{eqb}
 use lib.ListN.{length}
 use Rattle.base_bytes.specs.Logs.{room, noted, shown}
 use Rattle.spec_kernel.specs.declared.records.Kernel.{Kernel}
 use Rattle.spec_rules.specs.Tests.{keepsRules}
 use Rattle.spec_calls.specs.Calls.{callOf}
-use Rattle.spec_refusals.specs.Refusals.{numberOf}
+use Rattle.spec_refusals.specs.Refusals.{refusals, numberOf}
 use Rattle.spec_refusals.specs.Named.{valueOf}
 use Rattle.spec_notes.specs.Notes.{noteOf}
 use Rattle.spec_notes.specs.Undo.{lastLength, lastNote}
@@ -55,6 +55,12 @@ logCalled k bytes log used = cond (keepsRules k) (logAfter k bytes log used) log
 
 unfoldable pub partCalled : Kernel → List ℕ → List ℕ → ℕ → List ℕ
 partCalled k bytes log used = cond (keepsRules k) (partAfter k bytes log used) []
+
+-- Every number that a call can be answered but 0, each with its condition, in the order of document 01's table: a broken rule first, then
+-- what the state and the call decide, and last a note that doesn't fit the log's unused room [01, table].
+abbrev pub numbersOf : Kernel → List ℕ → List ℕ → ℕ → List (ℕ × Bool)
+numbersOf k bytes log used =
+    (14, not (keepsRules k)) ∷ (refusals k (callOf bytes) ++ ((13, not (room log used (noteFor k bytes))) ∷ []))
 
 -- ---- the undo, which has the numbers 0, 14 and 15 [01, answers 5]
 -- the earlier state that the last note leads back to

@@ -1,12 +1,13 @@
 -- Runs of many calls and undos, by the public call and undo. A run follows a list of calls where its state is their replay and the used
 -- part of its log ends in the last of their notes: demand 3 over many is stated on this. Lists of calls and of notes have the last first.
-use Prim.Native.Nat.{ℕ, zero, suc, _+_, _<_}
+use Prim.Native.Nat.{ℕ, zero, suc, _+_}
 use mathlib.Core.Path.{_≡_}
 use mathlib.Core.Bool.{cond}
 use mathlib.Core.List.{List, [], _∷_, _++_, map}
 use lib.Dec.{eqb}
-use lib.ListN.{length, getD, take, drop, replicate}
+use lib.ListN.{length, take, drop, replicate}
 use Rattle.spec_kernel.specs.declared.records.Kernel.{Kernel}
+use Rattle.spec_notes.specs.Within.{AreBytes}
 use Rattle.spec_notes.specs.Undoes.{backFrom}
 use Rattle.spec_answers.specs.declared.Logged.{Logged}
 use Rattle.spec_answers.specs.Steps.{answer, called}
@@ -14,7 +15,7 @@ use Rattle.spec_answers.specs.Logs.{logged, noteFor, calledWith, logCall
 
 -- sixteen bytes
 abbrev pub IsRecord : List ℕ → Type 0
-IsRecord bytes = (length bytes ≡ 16) × ((i : ℕ) → getD bytes i 0 < 256)
+IsRecord bytes = (length bytes ≡ 16) × AreBytes bytes
 
 abbrev pub AreRecords : List (List ℕ) → Type 0
 AreRecords [] = Unit {0}

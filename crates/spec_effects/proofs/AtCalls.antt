@@ -65,6 +65,6 @@ valueAt n k c =
     (cond (eqb (getD kinds n noKind .message) theTaken) (nextMessage k (c .b)) 255)))
 
 pub by-kind : (k : Kernel) (c : Call) {n : ℕ} → c .kind ≡ n → (k′ : Kernel) → getD lawsOfKinds n noLaw k c (valueAt n k c) k′
-    → lawOf c k c (valueOf k c) k′
+    → lawOf k c (valueOf k c) k′
 unfolding lawOf valueOf kindOf
 by-kind k c e k′ h = subst (λ n. getD lawsOfKinds n noLaw k c (valueAt n k c) k′) (sym e) h

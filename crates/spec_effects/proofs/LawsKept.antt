@@ -48,7 +48,7 @@ use Rattle.spec_effects.proofs.AtCalls.{bytes, timed-stopped, runnable,
 module _ {k : Kernel} (B : Before k) {c : Call} (A : Accepted k c) where
   -- the law of its kind, of this state after it
   abbrev Holds : Kernel → Type 0
-  Holds k′ = lawOf c k c (valueOf k c) k′
+  Holds k′ = lawOf k c (valueOf k c) k′
 
   -- ---- threads
   kind-2 : c .kind ≡ 2 → Holds (createThread k c)
@@ -238,9 +238,9 @@ module _ {k : Kernel} (B : Before k) {c : Call} (A : Accepted k c) where
       )
 
 module _ {k : Kernel} (B : Before k) {c : Call} (A : Accepted k c) (u : k .unscheduled < 256) (v : k .critical < 256) where
-  effect-lawful : lawOf c k c (valueOf k c) (effect k c)
+  effect-lawful : lawOf k c (valueOf k c) (effect k c)
   effect-lawful =
-      effect-of A (lawOf c k c (valueOf k c)) λ kind-0.
+      effect-of A (lawOf k c (valueOf k c)) λ kind-0.
       kind-0
       ▸ kind-1 B A
       ▸ kind-2 B A
@@ -276,5 +276,5 @@ module _ {k : Kernel} (B : Before k) {c : Call} (A : Accepted k c) (u : k .unsch
 
 -- From the rules and "accepted" the law of the kind; the levels are bytes, as the types have them.
 pub laws-kept : (k : Kernel) (c : Call) → Sized k → Rules k → k .unscheduled < 256 → k .critical < 256 → numberOf k c ≡ 0
-    → lawOf c k c (valueOf k c) (effect k c)
+    → lawOf k c (valueOf k c) (effect k c)
 laws-kept k c Z R u v h = effect-lawful (before k Z R) (accepted k c h) u v

@@ -65,5 +65,6 @@ lawsOfKinds =
     ∷ silent (λ k c. BitIs (c .a) false k)  -- 30 interrupt: clear bit a
     ∷ []
 
-unfoldable pub lawOf : Call → Law
-lawOf c = getD lawsOfKinds (c .kind) noLaw
+-- the law of a call's kind
+unfoldable pub lawOf : Law
+lawOf k c = getD lawsOfKinds (c .kind) noLaw k c

@@ -28,7 +28,7 @@ use Rattle.spec_notes.specs.Predicted.{predictedMessage}
 use Rattle.spec_notes.specs.Sections.{entriesFrom, threadEntry, threadEntries, threadsSection, semaphoreEntry, semaphoreEntries}
 use Rattle.spec_notes.specs.Sections.{semaphoresSection, eventEntry, eventEntries, bitNoted, eventsSection, messageEntry}
 use Rattle.spec_notes.specs.Sections.{messageEntries, messagesSection, unlessPredicted, levelsNoted, schedulerSection}
-use Rattle.spec_notes.specs.Counts.{countFrom}
+use Rattle.spec_notes.proofs.Counting.{countFrom}
 
 -- ---- entries
 module _ (touched differs : ℕ → Bool) (entry : ℕ → List ℕ) (w : ℕ) where

@@ -37,9 +37,9 @@ use Rattle.spec_notes.specs.Predicted.{predictedSemaphore}
 use Rattle.spec_notes.specs.Sections.{entriesFrom, threadEntry, semaphoreEntry, eventEntry, eventEntries, messageEntry}
 use Rattle.spec_notes.specs.Sections.{schedulerSection, threadsSection, semaphoresSection, eventsSection, messagesSection}
 use Rattle.spec_notes.specs.Notes.{beforeLength, noteOf, leastNote}
-use Rattle.spec_notes.specs.Counts.{countFrom, sameMessageRecord, threadsDiffer, semaphoresDiffer, messagesDiffer, mostBytes}
-use Rattle.spec_notes.specs.Within.{Within, CallWithin}
+use Rattle.spec_notes.specs.Counts.{mostBytes}
 use Rattle.spec_notes.proofs.RecordsBack.{same-thread, same-semaphore}
+use Rattle.spec_notes.proofs.Counting.{countFrom, sameMessageRecord, threadsDiffer, semaphoresDiffer, messagesDiffer}
 use Rattle.spec_notes.proofs.EntriesShort.{entries-short, entries-but-one, count-none}
 use Rattle.spec_notes.proofs.EntriesShort.{thread-entry, semaphore-entry, event-entry, message-entry-live, bit-short}
 use Rattle.spec_notes.proofs.EntriesShort.{scheduler-short}
@@ -225,11 +225,10 @@ module _ (k : Kernel) (c : Call) (S : Before k) (e : c .kind ≡ 1) where
   unfolding scheduled
   scheduled-semaphores i b = rw effect-tick (tick-semaphores k c i b)
 
-pub note-short : (k : Kernel) (bytes : List ℕ) → length bytes ≡ 16 → Sized k → Rules k → Within k → CallWithin (callOf bytes)
-    → numberOf k (callOf bytes) ≡ 0
-    → length (noteOf k bytes (scheduled (effect k (callOf bytes)))) ≤ mostBytes k (scheduled (effect k (callOf bytes)))
-unfolding mostBytes
-note-short k bytes b Z R _ _ h =
+pub note-short : (k : Kernel) (bytes : List ℕ) → length bytes ≡ 16 → Sized k → Rules k → numberOf k (callOf bytes) ≡ 0
+    → (let k′ = scheduled (effect k (callOf bytes)) in
+    length (noteOf k bytes k′) ≤ mostBytes (threadsDiffer k k′) (semaphoresDiffer k k′) (messagesDiffer k k′))
+note-short k bytes b Z R h =
     let c = callOf bytes in
     let k′ : Kernel = scheduled (effect k c) in
     let B = before k Z R in

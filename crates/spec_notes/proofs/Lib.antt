@@ -11,9 +11,11 @@ pub mod StaysAtWakings
 pub mod StaysAtObjects
 pub mod StaysAtTicks
 pub mod StaysAtCalls
+pub mod Counting
 pub mod Slight
 pub mod TickSlight
 pub mod Lengths
+pub mod Differing
 pub mod TablesBack
 pub mod MessagesBack
 pub mod SemaphoresBack

@@ -44,7 +44,7 @@ use Rattle.spec_effects.proofs.ByKind.{_▸_, end, effect-of}
 use Rattle.proof_rules.proofs.OfDestroy.{freed-record}
 use Rattle.spec_notes.specs.Rows.{eventRow, messageRow}
 use Rattle.spec_notes.specs.Touched.{sameRow, sameEvent, sameMessage, touchedEvent, touchedMessage}
-use Rattle.spec_notes.specs.Counts.{sameMessageRecord}
+use Rattle.spec_notes.proofs.Counting.{sameMessageRecord}
 use Rattle.spec_notes.proofs.StaysAtMessages.{first-member}
 
 pub record Slight (k : Kernel) (c : Call) (u : Kernel) : Type 0 where
@@ -130,7 +130,7 @@ module _ {k : Kernel} (B : Before k) {c : Call} (A : Accepted k c) where
 
   -- those that the thread owns are freed
   kind-3 : c .kind ≡ 3 → Slight k c (destroyThread k c)
-  unfolding destroyThread freeMessages sameMessageRecord
+  unfolding destroyThread freeMessages sameMessageRecord sameMessage
   kind-3 e =
       let u : Kernel = destroyThread k c in
       let owned : (m : ℕ) → touchedMessage k c u m ≡ true → owns (c .a) (message k m) ≡ true =

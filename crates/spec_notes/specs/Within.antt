@@ -1,10 +1,14 @@
--- What the types of the fields give of every value: each number below its field's limit.
+-- What the types give of every value: so many records, and each number below its field's limit.
 use Prim.Native.Nat.{ℕ, _<_}
+use mathlib.Core.List.{List}
+use lib.ListN.{getD}
 use Rattle.spec_kernel.specs.declared.records.Kernel.{Kernel}
 use Rattle.spec_kernel.specs.Records.{thread, semaphore, event, message}
+use Rattle.spec_rules.specs.Rules.{Sized}
 use Rattle.spec_calls.specs.declared.call.Call.{Call}
 use Rattle.spec_notes.specs.Rows.{conditionData}
 
+-- each field of a state below the limit of its type
 pub record Within (k : Kernel) : Type 0 where
   pub priority : (t : ℕ) → thread k t .priority < 256
   pub first : (t : ℕ) → thread k t .first < 256
@@ -29,6 +33,16 @@ pub record Within (k : Kernel) : Type 0 where
   pub critical : k .critical < 256
   pub runner : k .runner < 256
 
+-- What the types give of every state, whatever it holds.
+pub record OfTypes (k : Kernel) : Type 0 where
+  pub sized : Sized k
+  pub within : Within k
+
+-- and of bytes
+abbrev pub AreBytes : List ℕ → Type 0
+AreBytes l = (i : ℕ) → getD l i 0 < 256
+
+-- the fields of a call that comes in bytes
 pub record CallWithin (x : Call) : Type 0 where
   pub a : x .a < 256
   pub b : x .b < 65536

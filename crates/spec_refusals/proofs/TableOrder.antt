@@ -2,13 +2,13 @@
 -- and a call is accepted exactly where no condition holds.
 use Prim.Native.Nat.{ℕ, zero, suc, _<_}
 use mathlib.Core.Path.{_≡_, refl, sym}
-use mathlib.Core.Bool.{Bool, true, false, not, _&&_, false≢true}
-use mathlib.Core.List.{List, [], _∷_, map}
+use mathlib.Core.Bool.{Bool, true, false, not, cond, _&&_, false≢true}
+use mathlib.Core.List.{List, [], _∷_, _++_, map}
 use mathlib.Core.Logic.{_↔_}
 use native.Mathlib.Omega.{arith}
 use lib.Dec.{eqb}
 use lib.ListN.{length, getD}
-use borrow.Author.Tests.{not-true, eqb-false}
+use borrow.Author.Tests.{not-true, eqb-false, ne-eqb}
 use Rattle.spec_kernel.specs.declared.records.Kernel.{Kernel}
 use Rattle.spec_calls.specs.declared.call.Call.{Call}
 use Rattle.spec_refusals.specs.Refusals.{refusals, firstThatApplies, numberOf}
@@ -21,7 +21,7 @@ abbrev condition : List (ℕ × Bool) → ℕ → Bool
 condition l i = getD l i (0, false) .1
 
 -- no two entries have one number, and none has 0
-abbrev distinct : List (ℕ × Bool) → Bool
+abbrev pub distinct : List (ℕ × Bool) → Bool
 distinct [] = true
 distinct (t ∷ l) = let r = distinct l in not (eqb (t .0) 0) && (lacks (t .0) l && r)
 
@@ -31,7 +31,7 @@ lacks-at n [] d i h e = omega arith
 lacks-at n (t ∷ l) d zero h e = lacks-head n t l d e
 lacks-at n (t ∷ l) d (suc i) h e = lacks-at n l (and-right (not (eqb (t .0) n)) (lacks n l) d) i (omega arith) e
 
-lacks-first : (n : ℕ) (l : List (ℕ × Bool)) → lacks n l ≡ true → (n ≡ 0 → ⊥) → firstThatApplies l ≡ n → ⊥
+pub lacks-first : (n : ℕ) (l : List (ℕ × Bool)) → lacks n l ≡ true → (n ≡ 0 → ⊥) → firstThatApplies l ≡ n → ⊥
 lacks-first n [] d z e = z (sym e)
 lacks-first n ((m, true) ∷ l) d z e = lacks-head n (m, true) l d e
 lacks-first n ((m, false) ∷ l) d z e = lacks-first n l (and-right (not (eqb m n)) (lacks n l) d) z e
@@ -84,17 +84,30 @@ gives-none [] f = refl
 gives-none ((n, true) ∷ l) f = absurd (false≢true (sym (f 0)))
 gives-none ((n, false) ∷ l) f = gives-none l (λ i. f (suc i))
 
+-- ---- any table whose numbers are distinct and none 0
+module _ (l : List (ℕ × Bool)) (d : distinct l ≡ true) where
+  -- an entry's number is given exactly where its condition holds and none before it does
+  pub first-exactly : (i : ℕ) → i < length l
+      → (firstThatApplies l ≡ number l i) ↔ ((condition l i ≡ true) × ((j : ℕ) → j < i → condition l j ≡ false))
+  first-exactly i h = (given-means l d i h, λ r. first-given l i (r .0) (r .1))
+
+  -- and 0 exactly where none holds
+  pub none-exactly : (firstThatApplies l ≡ 0) ↔ ((i : ℕ) → condition l i ≡ false)
+  none-exactly = (none-given l d, gives-none l)
+
+-- entries behind a table are asked where nothing of it applies
+pub first-append : (l m : List (ℕ × Bool)) → distinct l ≡ true
+    → firstThatApplies (l ++ m) ≡ cond (eqb (firstThatApplies l) 0) (firstThatApplies m) (firstThatApplies l)
+first-append [] m d = refl
+first-append ((n, true) ∷ l) m d = rw (ne-eqb n 0 (non-zero (n, true) l d))
+first-append ((n, false) ∷ l) m d = first-append l m (rest-distinct (n, false) l d)
+
+-- ---- the twelve
 module _ (k : Kernel) (c : Call) where
   -- the numbers stand in document 01's order [01, table]
   pub numbers-in-order : map (λ t. t .0) (refusals k c) ≡ 1 ∷ 3 ∷ 2 ∷ 5 ∷ 4 ∷ 9 ∷ 8 ∷ 10 ∷ 12 ∷ 11 ∷ 6 ∷ 7 ∷ []
   numbers-in-order = refl
 
-  pub given-exactly : (i : ℕ) → i < 12
-      → (numberOf k c ≡ getD (refusals k c) i (0, false) .0)
-      ↔ ((getD (refusals k c) i (0, false) .1 ≡ true) × ((j : ℕ) → j < i → getD (refusals k c) j (0, false) .1 ≡ false))
-  unfolding numberOf
-  given-exactly i h = (given-means (refusals k c) refl i h, λ r. first-given (refusals k c) i (r .0) (r .1))
-
   pub accepted-exactly : (numberOf k c ≡ 0) ↔ ((i : ℕ) → getD (refusals k c) i (0, false) .1 ≡ false)
   unfolding numberOf
-  accepted-exactly = (none-given (refusals k c) refl, gives-none (refusals k c))
+  accepted-exactly = none-exactly (refusals k c) refl
