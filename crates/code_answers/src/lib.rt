@@ -1,7 +1,8 @@
 // A call with a log, on a state that keeps its rules.
 ghost use mathlib.Core.Path.{_≡_};
 ghost use Rattle.spec_answers.specs.Steps.{answer, nextState};
-ghost use Rattle.spec_answers.specs.Logs.{logged, recorded, logAfter};
+ghost use Rattle.spec_answers.specs.Logs.{logged};
+ghost use Rattle.spec_answers.specs.Promises.{AnsweredUntested};
 use code_calls::call;
 use code_calls::named;
 use code_kernel::runner;
@@ -44,7 +45,7 @@ fn next_state(k: Kernel, c: Call) -> Kernel
 // The call on a state that keeps its rules: a run that starts from a tested state needs no further test. The sections are written from
 // here, and not from a function over both states, which would copy them.
 pub fn recorded(k: Kernel, bytes: [u8; 16], log: &mut [u8], used: usize) -> Logged
-    ensures { λ r. ⌜ (r ≡ recorded k bytes (now (log .entry)) used) × (now (log .exit) ≡ logAfter k bytes (now (log .entry)) used) ⌝ }
+    ensures { λ r. ⌜ AnsweredUntested k bytes (now (log .entry)) used r (now (log .exit)) ⌝ }
 {
     let c = call::call_of(bytes);
     let n = named::named_by(k, c);

@@ -13,10 +13,12 @@ use Rattle.base_queue.proofs.Lists.{take-size}
 use Rattle.base_bytes.specs.Bytes.{un}
 use Rattle.base_bytes.proofs.Turns.{drop-least}
 use Rattle.spec_notes.specs.Notes.{sectionCount, leastNote}
-use Rattle.spec_notes.specs.Frames.{nothing, sections, isWhole, firstSection, behindSection, sectionsAt, areWhole, sectionBytes, framesOf}
+use Rattle.spec_notes.specs.Frames.{isWhole, firstSection, behindSection, sectionsAt, areWhole, sectionBytes, framesOf}
 use Rattle.spec_notes.specs.Undoes.{callBytes}
-use Rattle.code_notes_frame.specs.Meant.{partOf, startFrom, recordOf}
+use Rattle.code_notes_frame.specs.Meant.{partOf, startFrom, decoded, meant, recordOf}
 use Rattle.code_notes_frame.specs.declared.frames.Part.{Part}
+use Rattle.code_notes_frame.specs.declared.frames.Decoded.{Decoded}
+use Rattle.code_notes_frame.specs.declared.frames.Decoded.the-variants.{Nothing, Sections}
 
 abbrev pub part : ℕ → ℕ → Part
 part p q = record { from = p; to = q }
@@ -90,19 +92,23 @@ module _ (note : List ℕ) where
   unfolding sectionBytes partOf
   whole = whole-at s sectionCount 0 (omega arith)
 
-  pub frames-fit : startFrom s sectionCount 0 ≡ length s → framesOf note ≡ sections (sectionsAt sectionCount s)
-  unfolding framesOf sectionBytes partOf
-  frames-fit h = rw (whole, eq-eqb (startFrom s sectionCount 0) (length s) h)
+  -- what is read, and that it means the note's sections
+  abbrev Read : Decoded → Type 0
+  Read r = (r ≡ decoded note) × (meant r note ≡ framesOf note)
 
-  pub frames-none : (startFrom s sectionCount 0 ≡ length s → ⊥) → framesOf note ≡ nothing
-  unfolding framesOf
-  frames-none h = rw (whole, ne-eqb (startFrom s sectionCount 0) (length s) h)
+  pub frames-fit : startFrom s sectionCount 0 ≡ length s → Read (Sections (part 16 (length note - 2)))
+  unfolding decoded framesOf sectionBytes partOf
+  frames-fit h = let e = eq-eqb (startFrom s sectionCount 0) (length s) h in (rw (whole, e), rw (whole, e))
+
+  pub frames-none : (startFrom s sectionCount 0 ≡ length s → ⊥) → Read Nothing
+  unfolding decoded framesOf
+  frames-none h = let e = ne-eqb (startFrom s sectionCount 0) (length s) h in (rw (whole, e), rw (whole, e))
 
   part-size : length s ≤ length note - 2 - 16
   unfolding partOf
   part-size = rw length-take (omega arith)
 
-  pub frames-short : length note < leastNote → framesOf note ≡ nothing
+  pub frames-short : length note < leastNote → Read Nothing
   frames-short h = frames-none (λ z. omega (arith, z, start-grows s sectionCount 0, part-size))
 
 -- ---- the call record

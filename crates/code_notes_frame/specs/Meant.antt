@@ -1,7 +1,8 @@
 -- What the numbers of a decoded frame mean: which bytes of the note its sections are.
 use Prim.Native.Nat.{ℕ, zero, suc, _+_, _-_}
+use mathlib.Core.Bool.{cond}
 use mathlib.Core.List.{List, _++_}
-use lib.ListN.{take, drop, replicate}
+use lib.ListN.{length, take, drop, replicate}
 use Rattle.base_bytes.specs.Bytes.{un}
 use Rattle.spec_notes.specs.Notes.{sectionCount}
 use Rattle.spec_notes.specs.Frames as note
@@ -17,6 +18,11 @@ partOf p note = take (p .to - p .from) (drop (p .from) note)
 unfoldable pub startFrom : List ℕ → ℕ → ℕ → ℕ
 startFrom s zero p = p
 startFrom s (suc n) p = startFrom s n (p + 2 + un 2 (drop p s))
+
+-- what is read of a note: the part between the call record and the whole length, where its sections fill that
+unfoldable pub decoded : List ℕ → Decoded
+decoded bytes =
+    cond (note.areWhole sectionCount (note.sectionBytes bytes)) (Sections (record { from = 16; to = length bytes - 2 })) Nothing
 
 abbrev pub meant : Decoded → List ℕ → note.Decoded
 meant Nothing bytes = note.nothing

@@ -5,7 +5,7 @@ ghost use mathlib.Core.List.{[]};
 ghost use lib.ListN.{getD};
 ghost use Rattle.spec_notes.specs.Notes.{sectionCount};
 ghost use Rattle.spec_notes.specs.Frames.{sectionsAt, framesOf};
-ghost use Rattle.code_notes_frame.specs.Meant.{partOf, startFrom, meant};
+ghost use Rattle.code_notes_frame.specs.Meant.{partOf, startFrom, decoded, meant};
 use base_bytes::bytes::least;
 use base_bytes::bytes::number_at;
 
@@ -39,7 +39,7 @@ pub enum Decoded {
 
 // The sections, each behind its two bytes of length, fill what stands between the call record and the whole length; else nothing.
 pub fn frames_of(note: &[u8]) -> Decoded
-    ensures { λ r. ⌜ meant r (now (note .entry)) ≡ framesOf (now (note .entry)) ⌝ }
+    ensures { λ r. ⌜ (r ≡ decoded (now (note .entry))) × (meant r (now (note .entry)) ≡ framesOf (now (note .entry))) ⌝ }
 {
     if note.len() < LEAST {
         return Decoded::Nothing;

@@ -1,5 +1,7 @@
 // Whether two states are the same.
 ghost use mathlib.Core.Path.{_≡_};
+ghost use mathlib.Core.Bool.{true};
+ghost use mathlib.Core.Logic.{_↔_};
 ghost use Rattle.spec_rules.specs.Tests.{allOf};
 ghost use Rattle.spec_notes.specs.Touched.{sameRow, sameThread, sameSemaphore, sameEvent, sameMessage};
 ghost use Rattle.spec_notes.specs.Same.{sameAll, sameQueue, sameNumbers, sameKernel};
@@ -144,9 +146,9 @@ fn same_records(a: Kernel, b: Kernel) -> bool
     same_messages(messages, other_messages)
 }
 
-// Whether two states are the same.
+// Whether two states are one, whatever they hold.
 pub fn same_kernel(a: Kernel, b: Kernel) -> bool
-    ensures { λ r. ⌜ r ≡ sameKernel a b ⌝ }
+    ensures { λ r. ⌜ (r ≡ sameKernel a b) × ((r ≡ true) ↔ (a ≡ b)) ⌝ }
 {
     if !same_records(a, b) {
         return false;

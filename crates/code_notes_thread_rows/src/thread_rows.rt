@@ -6,7 +6,7 @@ ghost use lib.Dec.{eqb, ltb};
 ghost use Rattle.spec_refusals.specs.Refusals.{is, isOneOf};
 ghost use Rattle.base_rows.specs.Rows.{fitted};
 ghost use Rattle.spec_kernel.specs.Conditions.{isReady};
-ghost use Rattle.spec_notes.specs.Rows.{conditionCode, threadCode, conditionData, objectCode, wakeCode};
+ghost use Rattle.spec_notes.specs.Rows.{conditionCode, threadCode, fullCode, conditionData, objectCode, wakeCode};
 ghost use Rattle.spec_notes.specs.Rows.{threadRow, threadWidths, conditionFrom, wakeFrom, threadFrom};
 ghost use Rattle.spec_notes.specs.Touched.{sameThread, oneTickMore, youngerThread};
 ghost use Rattle.spec_notes.specs.Predicted.{wasBlocked, predictedThread};
@@ -73,6 +73,15 @@ pub fn code_of(r: Thread) -> u8
     }
     let c = r.condition;
     condition_code(c)
+}
+
+// The same, and of a thread that isn't live too what its condition is.
+fn full_code(r: Thread) -> u8
+    ensures { λ n. ⌜ n ≡ fullCode r ⌝ }
+{
+    let c = r.condition;
+    let code = condition_code(c);
+    if r.live { code } else { 5 + code }
 }
 
 // The widths of a row's fields, in bytes.
@@ -269,7 +278,7 @@ pub fn younger(c: Call, r: Thread) -> Thread
 pub fn same(r: Thread, s: Thread) -> bool
     ensures { λ b. ⌜ b ≡ sameThread r s ⌝ }
 {
-    if code_of(r) != code_of(s) {
+    if full_code(r) != full_code(s) {
         return false;
     }
     if r.priority != s.priority {

@@ -1,6 +1,5 @@
 // The undo of a log's last note, on any state and any log.
-ghost use mathlib.Core.Path.{_≡_};
-ghost use Rattle.spec_answers.specs.Logs.{undone};
+ghost use Rattle.spec_answers.specs.Promises.{Undone};
 use code_answers::refused;
 use code_answers_undo::undo_note;
 use code_notes_frame::last;
@@ -9,7 +8,7 @@ use spec_kernel::records::Kernel;
 
 // The last note of the first `used` bytes undone, on any state and any log.
 pub fn undo(k: Kernel, log: &[u8], used: usize) -> Logged
-    ensures { λ r. ⌜ r ≡ undone k (now (log .entry)) used ⌝ }
+    ensures { λ r. ⌜ Undone k (now (log .entry)) used r ⌝ }
 {
     if !code_rules::keeps_rules(k) {
         return refused(14, 255, k, used);

@@ -8,44 +8,40 @@ use lib.Seq.{take-at, length-take-le}
 use borrow.Author.Tests.{ne-eqb, leb-true}
 use Rattle.base_bytes.specs.Logs.{withNote}
 use Rattle.spec_kernel.specs.declared.records.Kernel.{Kernel}
-use Rattle.spec_rules.specs.Rules.{Rules}
 use Rattle.spec_rules.proofs.Exactly.{rules-hold}
 use Rattle.spec_calls.specs.Calls.{callOf}
 use Rattle.spec_refusals.specs.Refusals.{numberOf}
-use Rattle.spec_notes.specs.Within.{OfTypes}
 use Rattle.spec_notes.specs.Undo.{hasLast, lastNote, Yields}
 use Rattle.spec_notes.specs.Undoes.{undoes}
 use Rattle.spec_notes.proofs.FramesRead.{record-back, last-back}
 use Rattle.spec_notes.proofs.Yields.{yields-kept}
 use Rattle.spec_answers.specs.Steps.{Stepped, accepted, called}
 use Rattle.spec_answers.specs.Logs.{stateAfter, noteFor, undone}
-use Rattle.spec_answers.specs.Runs.{IsRecord, replayed, Accepts, notes, joined, Run, Follows, call, undo}
+use Rattle.spec_answers.specs.Runs.{Undamaged, IsRecord, replayed, Accepts, notes, joined, Run, Follows, call, undo}
 use Rattle.spec_answers.specs.Runs.{given, after, counting, ledBack, stoodAt}
 use Rattle.spec_answers.specs.Promises.{UndoneIsThat}
 use Rattle.spec_answers.proofs.Kept.{either}
 use Rattle.spec_answers.proofs.WithLogs.{with-length, one-of-four}
 use Rattle.spec_answers.proofs.Undos.{not-undone, undone-is-that}
 
--- what every state of a run is
-abbrev pub Kept : Kernel → Type 0
-Kept k = OfTypes k × Rules k
-
 -- ---- a list of calls
 -- an accepted call yields the next state and its note
-pub accepted-yields : (k : Kernel) (bytes : List ℕ) → Kept k → IsRecord bytes → called k bytes .answer .number ≡ 0
+pub accepted-yields : (k : Kernel) (bytes : List ℕ) → Undamaged k → IsRecord bytes → called k bytes .answer .number ≡ 0
     → Yields k bytes (called k bytes .kernel) (noteFor k bytes)
 unfolding noteFor
-accepted-yields k bytes (T, R) (n, b) =
+accepted-yields k bytes U (n, b) =
+    let T = U .types in
+    let R = U .rules in
     either k bytes (rules-hold k (T .sized) R) (λ s. s .answer .number ≡ 0 → Yields k bytes (s .kernel) (noteFor k bytes))
     (λ a _. record { sized = T .sized; inside = T .within; rules = R; sixteen = n; small = b; accepted = a; state = refl; noted = refl })
     (λ r a. absurd (r a))
 
 -- the state after accepted calls is as the one before them
-pub replayed-kept : (k : Kernel) (calls : List (List ℕ)) → Kept k → Accepts k calls → Kept (replayed k calls)
+pub replayed-kept : (k : Kernel) (calls : List (List ℕ)) → Undamaged k → Accepts k calls → Undamaged (replayed k calls)
 replayed-kept k [] K _ = K
 replayed-kept k (bytes ∷ calls) K (b, a, A) =
     let (Z, R, W, _) = yields-kept (accepted-yields (replayed k calls) bytes (replayed-kept k calls K A) b a) in
-    (record { sized = Z; within = W }, R)
+    record { types = record { sized = Z; within = W }; rules = R }
 
 -- ---- a log with a note behind its used part
 module _ (log : List ℕ) (used : ℕ) (note : List ℕ) (h : used + length note ≤ length log) where
@@ -87,9 +83,9 @@ module _ (start : Run) (gone : List (List ℕ)) where
       })
       (λ _ _ _ _. F) (λ _ n _. rw (ne-eqb (numberOf k (callOf bytes)) 0 n) F) (λ _ _. F) refl
 
-  module _ (K : Kept (start .kernel)) where
+  module _ (K : Undamaged (start .kernel)) where
     -- its state is as that of the start
-    pub run-kept : {calls : List (List ℕ)} {r : Run} → Follows start gone calls r → Kept (r .kernel)
+    pub run-kept : {calls : List (List ℕ)} {r : Run} → Follows start gone calls r → Undamaged (r .kernel)
     run-kept {calls} F = rw (F .state) (replayed-kept first calls (replayed-kept (start .kernel) gone K (F .earlier)) (F .accepted))
 
     -- an undo keeps it where a note is kept: the last call is one no more
@@ -157,6 +153,6 @@ module _ (start : Run) (gone : List (List ℕ)) where
     unfolding undoes hasLast
     any-undo-follows {calls = []} {r = r} z F =
         let u : r .used ≡ 0 = rw (F .ends, z) in
-        let (T, R) = run-kept F in
-        rw (not-undone (r .kernel) (r .log) (r .used) (rules-hold (r .kernel) (T .sized) R) (rw u)) F
+        let U = run-kept F in
+        rw (not-undone (r .kernel) (r .log) (r .used) (rules-hold (r .kernel) (U .types .sized) (U .rules)) (rw u)) F
     any-undo-follows {calls = bytes ∷ calls} z F = rw (undo-given F) (run-follows F)

@@ -12,11 +12,11 @@ use Rattle.spec_kernel.specs.declared.records.Kernel.{Kernel}
 use Rattle.spec_notes.proofs.Undoing.{state-found}
 use Rattle.spec_answers.specs.Steps.{called}
 use Rattle.spec_answers.specs.Logs.{noteFor}
-use Rattle.spec_answers.specs.Runs.{AreRecords, replayed, Accepts, notes, backTimes, Run, Follows, Step, call, undo}
+use Rattle.spec_answers.specs.Runs.{Undamaged, AreRecords, replayed, Accepts, notes, backTimes, Run, Follows, Step, call, undo}
 use Rattle.spec_answers.specs.Runs.{AreSteps, afterAll, counted, afterCalls, acceptedOf, acceptedFrom}
 use Rattle.spec_answers.specs.Runs.{ledBack, stoodAt, undoneTimes}
 use Rattle.spec_answers.specs.Promises.{RunsFollow, LogLeadsBack, LedBetween, NotesLeadBack, AnyMix}
-use Rattle.spec_answers.proofs.Following.{Kept, accepted-yields, replayed-kept, call-follows, run-kept}
+use Rattle.spec_answers.proofs.Following.{accepted-yields, replayed-kept, call-follows, run-kept}
 use Rattle.spec_answers.proofs.Following.{undo-given, undo-follows, any-undo-follows}
 
 -- at its start a run follows no calls
@@ -33,7 +33,7 @@ module _ (start : Run) (gone : List (List ℕ)) where
   calls-follow [] _ F = F
   calls-follow (bytes ∷ records) (b, bs) F = calls-follow records bs (call-follows start gone bytes b F)
 
-  module _ (K : Kept (start .kernel)) where
+  module _ (K : Undamaged (start .kernel)) where
     -- and from an empty log calls and undos those that count
     pub steps-follow : {calls : List (List ℕ)} {r : Run} (steps : List Step) → start .used ≡ 0 → AreSteps steps
         → Follows start gone calls r → Follows start gone (counted calls r steps) (afterAll r steps)
@@ -54,20 +54,20 @@ runs-follow start records b = calls-follow start [] records b (begun start)
 
 pub any-mix : AnyMix
 unfolding AnyMix
-any-mix start steps T R z b = steps-follow start [] (T, R) steps z b (begun start)
+any-mix start steps U z b = steps-follow start [] U steps z b (begun start)
 
 pub log-leads-back : LogLeadsBack
 unfolding LogLeadsBack RunsFollow
-log-leads-back start records j T R b h =
+log-leads-back start records j U b h =
     let l = acceptedOf start records in
     let F = rw (← take-append-drop j l) at (runs-follow start records b) in
-    rw (length-take-le j l h) at (times-undone start [] (T, R) (drop j l) (take j l) F)
+    rw (length-take-le j l h) at (times-undone start [] U (drop j l) (take j l) F)
 
 pub led-between : LedBetween
 unfolding LedBetween RunsFollow
-led-between start earlier later T R b c =
+led-between start earlier later U b c =
     let between : Run = afterCalls start earlier in
-    let K = run-kept start [] (T, R) (runs-follow start earlier b) in
+    let K = run-kept start [] U (runs-follow start earlier b) in
     let F = rw (← append-nil (acceptedOf between later)) at (runs-follow between later c) in
     let u : between .used + 0 ≡ between .used = omega arith in
     rw u at (times-undone between [] K [] (acceptedOf between later) F)
@@ -82,7 +82,7 @@ accepts-from k calls (bytes ∷ records) (b, bs) A =
     cases (eqb n 0) (λ e. rw e (accepts-from k (bytes ∷ calls) records bs (b, eqb-true n 0 e, A)))
     (λ e. rw e (accepts-from k calls records bs A))
 
-lead-back : (k : Kernel) (calls : List (List ℕ)) (j : ℕ) → Kept k → Accepts k calls
+lead-back : (k : Kernel) (calls : List (List ℕ)) (j : ℕ) → Undamaged k → Accepts k calls
     → backTimes j (replayed k calls) (notes k calls) ≡ replayed k (drop j calls)
 lead-back k calls zero K A = refl
 lead-back k [] (suc j) K A = refl
@@ -93,4 +93,4 @@ lead-back k (bytes ∷ calls) (suc j) K (b, a, A) =
 
 pub notes-lead-back : NotesLeadBack
 unfolding NotesLeadBack
-notes-lead-back k records j T R b = lead-back k (acceptedFrom k [] records) j (T, R) (accepts-from k [] records b tt)
+notes-lead-back k records j U b = lead-back k (acceptedFrom k [] records) j U (accepts-from k [] records b tt)

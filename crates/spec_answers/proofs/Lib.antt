@@ -1,3 +1,5 @@
+pub mod FromTypes
+pub mod Fresh
 pub mod RunnerStays
 pub mod Kept
 pub mod WithLogs

@@ -3,7 +3,7 @@ use mathlib.Core.Path.{_≡_, refl}
 use mathlib.Core.Bool.{true}
 use Rattle.base_bytes.specs.Bytes.{le, un}
 use Rattle.base_bytes.specs.Logs.{noted}
-use Rattle.base_rows.specs.Rows.{flagsOf, rowFrom}
+use Rattle.base_rows.specs.Rows.{flagsOf, bodyOf, usedBy, rowFrom}
 use Rattle.base_queue.specs.Tables.{isPlaced, moved}
 use Rattle.base_queue.specs.Queues.{isTidy}
 use Rattle.spec_kernel.specs.Records.{fresh}
@@ -23,10 +23,11 @@ use Rattle.spec_time.specs.Time.{timeUp, due, ageAll, timePasses, pulse, pulseF
 use Rattle.spec_effects.specs.Effects.{effect}
 use Rattle.spec_rules.specs.Tests.{isNoThread, isNoSemaphore, isNoMessage, threadKept, semaphoreKept, messageKept, threadsKept}
 use Rattle.spec_rules.specs.Tests.{semaphoresKept, messagesKept, inRank, inTime, inStream, placesKept, timeKept, postedKept, runnerKept}
-use Rattle.spec_rules.specs.Tests.{keepsRules}
+use Rattle.spec_rules.specs.Tests.{conditionKept, liveThreadKept, liveSemaphoreKept, liveMessageKept, keepsRules}
 use Rattle.spec_notes.specs.Touched.{sameThread, sameSemaphore, sameEvent, sameMessage, youngerThread, youngerSemaphore, touchedThread}
 use Rattle.spec_notes.specs.Touched.{touchedSemaphore, touchedEvent, touchedMessage}
-use Rattle.spec_notes.specs.Predicted.{predictedScheduler}
+use Rattle.spec_notes.specs.Rows.{conditionFrom, wakeFrom, threadFrom, semaphoreFrom, eventFrom, messageFrom}
+use Rattle.spec_notes.specs.Predicted.{predictedThread, predictedSemaphore, predictedMessage, predictedScheduler}
 use Rattle.spec_notes.specs.Sections.{threadsSection, semaphoresSection, eventsSection, messagesSection, schedulerSection}
 use Rattle.spec_notes.specs.Notes.{beforeLength, noteOf}
 use Rattle.spec_notes.specs.Frames.{isWhole, firstSection, behindSection, sectionsAt, areWhole, sectionBytes, framesOf}
@@ -35,8 +36,7 @@ use Rattle.spec_notes.specs.Back.{eventsBefore, readMessages, messagesBefore, l
 use Rattle.spec_notes.specs.Undo.{lastLength, hasLast, lastNote}
 use Rattle.spec_notes.specs.Same.{sameQueue, sameNumbers, sameKernel}
 use Rattle.spec_notes.specs.Undoes.{callBytes, backFrom, levelsFit, yieldsAgain, undoesNote, undoes}
-use Rattle.spec_answers.specs.Steps.{step}
-use Rattle.spec_answers.specs.Logs.{noteFor, recorded, logAfter, undone}
+use Rattle.spec_answers.specs.Logs.{noteFor, recorded, logAfter, calledWith, logCalled, undone}
 use Rattle.spec_answers.specs.Samples.{all, samples}
 
 -- Unfolded is every definition that the runs come through, crate by crate: with one shut, the computation stands still there.
@@ -45,7 +45,7 @@ unfolding
     -- base_bytes
     le un noted
     -- base_rows
-    flagsOf rowFrom
+    flagsOf bodyOf usedBy rowFrom
     -- base_queue
     isPlaced moved isTidy
     -- spec_kernel
@@ -69,11 +69,12 @@ unfolding
     effect
     -- spec_rules
     isNoThread isNoSemaphore isNoMessage threadKept semaphoreKept messageKept threadsKept semaphoresKept messagesKept inRank inTime
-    inStream placesKept timeKept postedKept runnerKept keepsRules
+    inStream placesKept timeKept postedKept runnerKept conditionKept liveThreadKept liveSemaphoreKept liveMessageKept keepsRules
     -- spec_notes
+    conditionFrom wakeFrom threadFrom semaphoreFrom eventFrom messageFrom
     sameThread sameSemaphore sameEvent sameMessage youngerThread youngerSemaphore touchedThread touchedSemaphore touchedEvent
     touchedMessage
-    predictedScheduler
+    predictedThread predictedSemaphore predictedMessage predictedScheduler
     threadsSection semaphoresSection eventsSection messagesSection schedulerSection
     beforeLength noteOf
     isWhole firstSection behindSection sectionsAt areWhole sectionBytes framesOf
@@ -83,5 +84,5 @@ unfolding
     sameQueue sameNumbers sameKernel
     callBytes backFrom levelsFit yieldsAgain undoesNote undoes
     -- spec_answers
-    step noteFor recorded logAfter undone
+    noteFor recorded logAfter calledWith logCalled undone
 samples-hold = refl

@@ -39,7 +39,7 @@ use Rattle.spec_answers.specs.Logs.{partAfter, calledWith, logCalled, pa
 use Rattle.spec_answers.specs.Runs.{IsRecord}
 use Rattle.spec_answers.specs.Promises.{BrokenIsRefused, TestedExactly, RefusedExactly, AcceptedExactly, RefusalChangesNothing}
 use Rattle.spec_answers.specs.Promises.{KindDoes, RulesAreKept, RunnerIsAnswered, FirstReadyRuns, RunnerStaysInRegion}
-use Rattle.spec_answers.specs.Promises.{NoteIsWritten, NotesAreShort, Answered, Appended, OneResult, OnePart, AnsweredAlike}
+use Rattle.spec_answers.specs.Promises.{NoteIsWritten, NotesAreShort, Answered, AnsweredUntested, Appended, OneResult, OnePart, AnsweredAlike}
 use Rattle.spec_answers.proofs.RunnerStays.{effect-runner}
 
 -- 14 is none of the twelve numbers that the state and the call decide
@@ -211,7 +211,7 @@ module _ (k : Kernel) (bytes log : List ℕ) (used : ℕ) where
           let R = rules-mean k Z e in
           let k′ = stateAfter k bytes in
           let (Z′, R′) = rules-kept k (callOf bytes) Z R n in
-          (threadsDiffer k k′, semaphoresDiffer k k′, messagesDiffer k k′, differ k k′ Z R Z′ R′, note-short k bytes (B .0) Z R n))
+          (threadsDiffer k k′, semaphoresDiffer k k′, messagesDiffer k k′, differ k k′, note-short k bytes (B .0) Z R n))
           (λ _ _ _ z. absurd (omega arith)) (λ _ n z. absurd (n z)) (λ _ z. absurd (omega arith))
 
 -- ---- the promises
@@ -234,6 +234,12 @@ answers k bytes log used T B =
       noteIsWritten = note-is-written k bytes log used;
       notesAreShort = notes-are-short k bytes log used T B;
     }
+
+pub answers-untested : (k : Kernel) (bytes log : List ℕ) (used : ℕ) → OfTypes k → IsRecord bytes
+    → AnsweredUntested k bytes log used (recorded k bytes log used) (logAfter k bytes log used)
+unfolding calledWith logCalled
+answers-untested k bytes log used T B =
+    record { result = refl; written = refl; answered = λ R. rw (rules-hold k (T .sized) R) at (answers k bytes log used T B) }
 
 pub appends : (k : Kernel) (bytes log : List ℕ) (used : ℕ) → Appended k bytes log used (partCalled k bytes log used)
 appends k bytes log used =

@@ -8,6 +8,7 @@ use mathlib.Core.List.{List, [], _++_}
 use mathlib.Core.Logic.{_↔_, _⊎_}
 use lib.ListN.{length, getD, take, drop}
 use Rattle.spec_kernel.specs.declared.records.Kernel.{Kernel}
+use Rattle.spec_kernel.specs.Records.{fresh}
 use Rattle.spec_kernel.specs.Runner.{firstReady}
 use Rattle.spec_rules.specs.Rules.{Rules}
 use Rattle.spec_rules.specs.Tests.{keepsRules}
@@ -19,8 +20,8 @@ use Rattle.spec_notes.specs.Counts.{Differ, mostBytes}
 use Rattle.spec_notes.specs.Undo.{lastNote, Yields}
 use Rattle.spec_answers.specs.declared.Logged.{Logged}
 use Rattle.spec_answers.specs.Steps.{answer, called}
-use Rattle.spec_answers.specs.Logs.{logged, noteFor, calledWith, logCalled, partCalled, numbersOf, undone}
-use Rattle.spec_answers.specs.Runs.{AreRecords, replayed, notes, backTimes, Run, Follows, Step, AreSteps, afterAll}
+use Rattle.spec_answers.specs.Logs.{logged, noteFor, recorded, logAfter, calledWith, logCalled, partCalled, numbersOf, undone}
+use Rattle.spec_answers.specs.Runs.{Undamaged, AreRecords, replayed, notes, backTimes, Run, Follows, Step, AreSteps, afterAll}
 use Rattle.spec_answers.specs.Runs.{counted, afterCalls, acceptedOf, acceptedFrom, ledBack, stoodAt, undoneTimes}
 
 -- ---- Demand 1: whatever sixteen bytes come as a call, on whatever state and with whatever log, they are answered.
@@ -112,6 +113,12 @@ pub record Answered (k : Kernel) (bytes log : List ℕ) (used : ℕ) (r : Logged
   pub noteIsWritten : NoteIsWritten k bytes log used r log′
   pub notesAreShort : NotesAreShort k bytes r
 
+-- The same call without the test of the rules, for a run whose states are known to keep them: on such a state all of this is promised of it.
+pub record AnsweredUntested (k : Kernel) (bytes log : List ℕ) (used : ℕ) (r : Logged) (log′ : List ℕ) : Type 0 where
+  pub result : r ≡ recorded k bytes log used
+  pub written : log′ ≡ logAfter k bytes log used
+  pub answered : Rules k → Answered k bytes log used r log′
+
 -- The part of the log that an append hands back: the note where the call is accepted, and on a refusal a part of length 0 [01, notes 5].
 pub record Appended (k : Kernel) (bytes log : List ℕ) (used : ℕ) (part : List ℕ) : Type 0 where
   pub result : part ≡ partCalled k bytes log used
@@ -166,6 +173,10 @@ OnePart = (k : Kernel) (bytes log : List ℕ) (used : ℕ) (p q : List ℕ) → 
 unfoldable pub OneUndo : Type 0
 OneUndo = (k : Kernel) (log : List ℕ) (used : ℕ) (r s : Logged) → Undone k log used r → Undone k log used s → r ≡ s
 
+-- ---- Where runs begin: the fresh state keeps the rules, and each field its type [01, modelled 6].
+unfoldable pub FreshIsUndamaged : Type 0
+FreshIsUndamaged = Undamaged fresh
+
 -- ---- Demand 3 over many calls and undos, whatever the lent log holds and however much of it is used; Runs says what "follows" means.
 -- A replay is said without a log (Steps.called): with one, each answer and its state are the same, but for number 13.
 unfoldable pub AnsweredAlike : Type 0
@@ -183,7 +194,7 @@ RunsFollow =
 -- ran then, and gives the very state and used length that the run had when it had followed all accepted calls but the last j.
 unfoldable pub LogLeadsBack : Type 0
 LogLeadsBack =
-    (start : Run) (records : List (List ℕ)) (j : ℕ) → OfTypes (start .kernel) → Rules (start .kernel) → AreRecords records
+    (start : Run) (records : List (List ℕ)) (j : ℕ) → Undamaged (start .kernel) → AreRecords records
     → j ≤ length (acceptedOf start records)
     → (let r = afterCalls start records in
     undoneTimes j r ≡ ledBack (stoodAt start [] (drop j (acceptedOf start records)) (r .log)))
@@ -191,19 +202,19 @@ LogLeadsBack =
 -- The same, said of the run as it stood between two calls: to undo as many notes as of the later ones were accepted leads there.
 unfoldable pub LedBetween : Type 0
 LedBetween =
-    (start : Run) (earlier later : List (List ℕ)) → OfTypes (start .kernel) → Rules (start .kernel) → AreRecords earlier → AreRecords later
+    (start : Run) (earlier later : List (List ℕ)) → Undamaged (start .kernel) → AreRecords earlier → AreRecords later
     → (let between = afterCalls start earlier in
     undoneTimes (length (acceptedOf between later)) (afterCalls between later) ≡ ledBack between)
 
 -- Without a log: whatever calls came, accepted or refused, the last j notes lead back to the very state before the last j accepted ones.
 unfoldable pub NotesLeadBack : Type 0
 NotesLeadBack =
-    (k : Kernel) (records : List (List ℕ)) (j : ℕ) → OfTypes k → Rules k → AreRecords records
+    (k : Kernel) (records : List (List ℕ)) (j : ℕ) → Undamaged k → AreRecords records
     → (let calls = acceptedFrom k [] records in
     backTimes j (replayed k calls) (notes k calls) ≡ replayed k (drop j calls))
 
 -- From an empty log, after any mix of calls and undos, refused ones too, the run follows the calls that were accepted and not undone.
 unfoldable pub AnyMix : Type 0
 AnyMix =
-    (start : Run) (steps : List Step) → OfTypes (start .kernel) → Rules (start .kernel) → start .used ≡ 0 → AreSteps steps
+    (start : Run) (steps : List Step) → Undamaged (start .kernel) → start .used ≡ 0 → AreSteps steps
     → Follows start [] (counted [] start steps) (afterAll start steps)

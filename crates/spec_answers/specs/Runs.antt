@@ -7,11 +7,17 @@ use mathlib.Core.List.{List, [], _∷_, _++_, map}
 use lib.Dec.{eqb}
 use lib.ListN.{length, take, drop, replicate}
 use Rattle.spec_kernel.specs.declared.records.Kernel.{Kernel}
-use Rattle.spec_notes.specs.Within.{AreBytes}
+use Rattle.spec_rules.specs.Rules.{Rules}
+use Rattle.spec_notes.specs.Within.{OfTypes, AreBytes}
 use Rattle.spec_notes.specs.Undoes.{backFrom}
 use Rattle.spec_answers.specs.declared.Logged.{Logged}
 use Rattle.spec_answers.specs.Steps.{answer, called}
 use Rattle.spec_answers.specs.Logs.{logged, noteFor, calledWith, logCalled, undone}
+
+-- A state that a function of the code can be given, and that keeps the state rules.
+pub record Undamaged (k : Kernel) : Type 0 where
+  pub types : OfTypes k
+  pub rules : Rules k
 
 -- sixteen bytes
 abbrev pub IsRecord : List ℕ → Type 0

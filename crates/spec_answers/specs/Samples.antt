@@ -1,30 +1,26 @@
--- Document 01's sample runs marked *, in one table: the calls, the answers, what then holds, and what holds once the last call is undone.
-use Prim.Native.Nat.{ℕ}
+-- Document 01's sample runs marked *, in one table: the calls, the answers, and what then holds. Each goes through the public call, on sixteen
+-- bytes and with a log, and is then undone to its start.
+use Prim.Native.Nat.{ℕ, zero, suc, _+_}
 use mathlib.Core.Bool.{Bool, true, false, _&&_}
 use mathlib.Core.List.{List, [], _∷_, _++_}
 use lib.Dec.{eqb}
 use lib.ListN.{replicate}
 use Rattle.base_bytes.specs.Bytes.{le}
 use Rattle.base_queue.specs.Lists.{isEmpty}
+use Rattle.base_queue.specs.Tables.{one}
 use Rattle.spec_kernel.specs.declared.records.Wake.{Wake}
 use Rattle.spec_kernel.specs.declared.records.Kernel.{Kernel}
 use Rattle.spec_kernel.specs.Records.{fresh, semaphore, thread}
 use Rattle.spec_kernel.specs.Places.{semaphoreQueue}
 use Rattle.spec_calls.specs.declared.call.Call.{Call}
 use Rattle.spec_moves.specs.States.{withUptime}
+use Rattle.spec_notes.specs.Same.{sameKernel}
 use Rattle.spec_answers.specs.declared.Answer.{Answer}
-use Rattle.spec_answers.specs.Steps.{answer, step}
-use Rattle.spec_answers.specs.Logs.{recorded, logAfter, undone}
+use Rattle.spec_answers.specs.Steps.{answer}
+use Rattle.spec_answers.specs.Runs.{Run, Step, given, after}
 
 abbrev pub sameAnswer : Answer → Answer → Bool
 sameAnswer x y = eqb (x .number) (y .number) && (eqb (x .value) (y .value) && eqb (x .runner) (y .runner))
-
--- each call gets its answer, and the last state passes the test
-abbrev pub runs : Kernel → List Call → List Answer → (Kernel → Bool) → Bool
-runs k [] [] then = then k
-runs k [] (x ∷ xs) then = false
-runs k (c ∷ cs) [] then = false
-runs k (c ∷ cs) (x ∷ xs) then = let r = runs (step k c .kernel) cs xs then in sameAnswer (step k c .answer) x && r
 
 abbrev pub call : ℕ → ℕ → ℕ → ℕ → ℕ → Call
 call kind a b c d = record { kind = kind; a = a; b = b; c = c; d = d; e = 0 }
@@ -33,27 +29,32 @@ call kind a b c d = record { kind = kind; a = a; b = b; c = c; d = d; e = 0 }
 abbrev pub bytesOf : Call → List ℕ
 bytesOf c = c .kind ∷ c .a ∷ (le 2 (c .b) ++ (le 4 (c .c) ++ (le 4 (c .d) ++ le 4 (c .e))))
 
--- a log without a note
-abbrev pub empty : List ℕ
-empty = replicate 128 0
+-- The run is undone note by note until none is left, and is where it began.
+abbrev pub leadsHome : Kernel → ℕ → Run → Bool
+leadsHome start zero r = eqb (r .used) 0 && sameKernel start (r .kernel)
+leadsHome start (suc n) r = let next = after r Step.undo in leadsHome start n next
 
--- the last call is noted in an empty log and undone: the state that the undo gives
-abbrev pub undoneLast : Kernel → List Call → Kernel
-undoneLast k [] = k
-undoneLast k (c ∷ []) =
-    let r = recorded k (bytesOf c) empty 0 in
-    undone (r .kernel) (logAfter k (bytesOf c) empty 0) (r .used) .kernel
-undoneLast k (c ∷ d ∷ cs) = undoneLast (step k c .kernel) (d ∷ cs)
+-- Each call comes as sixteen bytes, with the log of the run, and gets its answer; the last state passes the test; and then the run, of
+-- which so many calls were accepted, leads home.
+abbrev pub runs : Kernel → (Kernel → Bool) → ℕ → Run → List Call → List Answer → Bool
+runs start then n r [] [] = then (r .kernel) && leadsHome start n r
+runs start then n r [] (x ∷ xs) = false
+runs start then n r (c ∷ cs) [] = false
+runs start then n r (c ∷ cs) (x ∷ xs) =
+    let came = given r (Step.call (bytesOf c)) .answer in
+    let rest = runs start then (n + one (eqb (came .number) 0)) (after r (Step.call (bytesOf c))) cs xs in
+    sameAnswer came x && rest
 
 pub record Sample : Type 0 where
   pub start : Kernel
   pub calls : List Call
   pub answers : List Answer
   pub then : Kernel → Bool
-  pub back : Kernel → Bool
 
+-- from an empty log of 512 bytes
 abbrev pub holds : Sample → Bool
-holds s = runs (s .start) (s .calls) (s .answers) (s .then) && s .back (undoneLast (s .start) (s .calls))
+holds s =
+    runs (s .start) (s .then) 0 (record { kernel = s .start; log = replicate 512 0; used = 0 }) (s .calls) (s .answers)
 
 abbrev pub all : List Sample → Bool
 all [] = true
@@ -88,7 +89,6 @@ samples =
       calls = call 6 0 0 0 0 ∷ tick ∷ [];
       answers = answer 2 255 255 ∷ answer 0 255 255 ∷ [];
       then = anything;
-      back = anything;
     }
     -- A thread of the lowest priority, 30, can be created; 0 and 31 are refused with 5 [01, samples 2].
     ∷ record {
@@ -96,7 +96,6 @@ samples =
       calls = create 30 ∷ create 0 ∷ create 31 ∷ [];
       answers = answer 0 0 0 ∷ answer 5 255 0 ∷ answer 5 255 0 ∷ [];
       then = anything;
-      back = anything;
     }
     -- While thread 1, the highest, sleeps two ticks, the two of priority 5 take turns by a yield; then it runs again [01, samples 3].
     ∷ record {
@@ -112,7 +111,6 @@ samples =
           ∷ answer 0 255 1
           ∷ [];
       then = anything;
-      back = anything;
     }
     -- A pend is not met within its one tick: the thread is timed out, and nobody is left in the queue [01, samples 4].
     ∷ record {
@@ -120,7 +118,6 @@ samples =
       calls = semaphoreOf 0 1 ∷ create 5 ∷ pend 1 ∷ tick ∷ [];
       answers = answer 0 0 255 ∷ answer 0 0 0 ∷ answer 0 255 255 ∷ answer 0 255 0 ∷ [];
       then = λ k. timedOut (thread k 0 .wake) && (isEmpty (semaphoreQueue k 0) && eqb (semaphore k 0 .count) 0);
-      back = anything;
     }
     -- The same, and a post after it finds nobody to wake and raises the count to 1 [01, samples 4].
     ∷ record {
@@ -128,7 +125,6 @@ samples =
       calls = semaphoreOf 0 1 ∷ create 5 ∷ pend 1 ∷ tick ∷ call 19 0 0 0 0 ∷ [];
       answers = answer 0 0 255 ∷ answer 0 0 0 ∷ answer 0 255 255 ∷ answer 0 255 0 ∷ answer 0 255 0 ∷ [];
       then = λ k. eqb (semaphore k 0 .count) 1;
-      back = anything;
     }
     -- A post at the maximum, which is 1, passes and adds nothing [01, samples 5].
     ∷ record {
@@ -136,7 +132,6 @@ samples =
       calls = semaphoreOf 1 1 ∷ create 5 ∷ call 19 0 0 0 0 ∷ [];
       answers = answer 0 0 255 ∷ answer 0 0 0 ∷ answer 0 255 0 ∷ [];
       then = λ k. eqb (semaphore k 0 .count) 1;
-      back = anything;
     }
     -- In an unscheduled region a pend that would block is refused with 6; once the count is 1 it passes [01, samples 6].
     ∷ record {
@@ -145,7 +140,6 @@ samples =
       answers =
           answer 0 0 255 ∷ answer 0 0 0 ∷ answer 0 255 0 ∷ answer 6 255 0 ∷ answer 0 255 0 ∷ answer 0 255 0 ∷ [];
       then = λ k. eqb (semaphore k 0 .count) 0;
-      back = anything;
     }
     -- In a critical region a tick is refused with 3, and the uptime stays [01, samples 7].
     ∷ record {
@@ -153,7 +147,6 @@ samples =
       calls = create 5 ∷ call 11 0 0 0 0 ∷ tick ∷ [];
       answers = answer 0 0 0 ∷ answer 0 255 0 ∷ answer 3 255 0 ∷ [];
       then = λ k. eqb (k .uptime) 0;
-      back = anything;
     }
     -- In an unscheduled region it is accepted, and the uptime goes up [01, samples 7].
     ∷ record {
@@ -161,14 +154,12 @@ samples =
       calls = create 5 ∷ call 8 0 0 0 0 ∷ tick ∷ [];
       answers = answer 0 0 0 ∷ answer 0 255 0 ∷ answer 0 255 0 ∷ [];
       then = λ k. eqb (k .uptime) 1;
-      back = anything;
     }
-    -- The tick after the greatest uptime makes it 0, and its undo makes it the greatest again [01, samples 8].
+    -- The tick after the greatest uptime makes it 0, and its undo, as of every sample, leads back to the start: the greatest again [01, samples 8].
     ∷ record {
       start = withUptime 4294967295 fresh;
       calls = tick ∷ [];
       answers = answer 0 255 255 ∷ [];
       then = λ k. eqb (k .uptime) 0;
-      back = λ k. eqb (k .uptime) 4294967295;
     }
     ∷ []

@@ -30,12 +30,11 @@ fails-exactly same equal x y means = (
   λ n. cases (same x y) (λ e. absurd (n (means e))) (λ e. rw e),
 )
 
-module _ (k k′ : Kernel) (Z : Sized k) (R : Rules k) (Z′ : Sized k′) (R′ : Rules k′) where
-  -- dead threads are alike in every field, so that a thread's row tells its record
+module _ (k k′ : Kernel) where
   thread-differs : (t : ℕ) → (not (sameThread (thread k t) (thread k′ t)) ≡ true) ↔ (thread k t ≡ thread k′ t → ⊥)
   thread-differs t =
       fails-exactly sameThread thread-same (thread k t) (thread k′ t)
-      (same-thread (thread k t) (thread k′ t) (before k Z R .core .threads t .gone) (before k′ Z′ R′ .core .threads t .gone))
+      (same-thread (thread k t) (thread k′ t))
 
   semaphore-differs : (i : ℕ) → (not (sameSemaphore (semaphore k i) (semaphore k′ i)) ≡ true) ↔ (semaphore k i ≡ semaphore k′ i → ⊥)
   semaphore-differs i =

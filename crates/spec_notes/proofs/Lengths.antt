@@ -30,7 +30,7 @@ use Rattle.proof_rules.proofs.Core.{live-semaphore}
 use Rattle.proof_rules.proofs.Ends.{Before, before}
 use Rattle.proof_rules.proofs.Accepted.{accepted}
 use Rattle.spec_effects.proofs.RulesKept.{rules-kept}
-use Rattle.spec_notes.specs.Rows.{threadCode, threadRow, semaphoreRow, semaphoreWidths}
+use Rattle.spec_notes.specs.Rows.{threadCode, fullCode, threadRow, semaphoreRow, semaphoreWidths}
 use Rattle.spec_notes.specs.Touched.{sameThread, sameSemaphore, youngerThread, youngerSemaphore, movesInPlace}
 use Rattle.spec_notes.specs.Touched.{touchedThread, touchedSemaphore, touchedEvent, touchedMessage}
 use Rattle.spec_notes.specs.Predicted.{predictedSemaphore}
@@ -49,7 +49,7 @@ use Rattle.spec_notes.proofs.TickSlight.{Aged, tick-threads, tick-semap
 -- ---- records that stay
 pub thread-same : (r : Thread) → sameThread r r ≡ true
 unfolding sameThread
-thread-same r = rw (same (threadCode r), row-same (threadRow r 0 0))
+thread-same r = rw (same (fullCode r), row-same (threadRow r 0 0))
 
 pub semaphore-same : (r : Semaphore) → sameSemaphore r r ≡ true
 unfolding sameSemaphore
@@ -157,7 +157,7 @@ module _ (k : Kernel) (c : Call) (k′ : Kernel) where
       thread-differs t h =
           let r = thread k t in
           cases (sameThread r (thread k′ t))
-          (λ s. let z = same-thread r (thread k′ t) (B .core .threads t .gone) (B′ .core .threads t .gone) s in
+          (λ s. let z = same-thread r (thread k′ t) s in
           let d : r .ticks ≡ 0 = let q = ap (λ (x : Thread). x .ticks) z in omega (arith, less t) in
           absurd (false≢true (simp (← z, younger-still c r d, thread-same r, e) at h)))
           (λ s. rw s)

@@ -1,11 +1,11 @@
 -- A record's row gives the record back, so rows that are the same mean equal records.
-use Prim.Native.Nat.{ℕ, _<_}
+use Prim.Native.Nat.{ℕ, _+_, _-_, _<_}
 use mathlib.Core.Path.{_≡_, refl, sym, ap, _∙_}
 use mathlib.Core.Bool.{Bool, true, false, not, cond, and-eq-true-iff, false≢true}
 use mathlib.Core.List.{List, [], _∷_}
 use native.Mathlib.Nat.{mod-eq-of-lt}
 use native.Mathlib.Omega.{arith}
-use lib.Dec.{eqb}
+use lib.Dec.{eqb, ltb}
 use lib.ListN.{getD, drop}
 use borrow.Author.Tests.{eqb-true}
 use borrow.Table.Steps.{cases}
@@ -21,7 +21,7 @@ use Rattle.spec_kernel.specs.declared.records.Message.{Message}
 use Rattle.spec_kernel.specs.Records.{noThread}
 use Rattle.spec_calls.specs.declared.call.Call.{Call}
 use Rattle.spec_refusals.specs.Refusals.{is}
-use Rattle.spec_notes.specs.Rows.{conditionCode, threadCode, conditionData, wakeCode, threadRow, conditionFrom, wakeFrom, threadFrom}
+use Rattle.spec_notes.specs.Rows.{conditionCode, threadCode, fullCode, conditionData, wakeCode, threadRow, conditionFrom, wakeFrom, threadFrom}
 use Rattle.spec_notes.specs.Rows.{semaphoreRow, semaphoreFrom, eventRow, eventFrom, messageRow, messageFrom}
 use Rattle.spec_notes.specs.Touched.{sameRow, sameThread, sameSemaphore, sameEvent, sameMessage, youngerThread}
 
@@ -114,6 +114,61 @@ by-back f z r place due D b =
     })
     (λ e. rw (D e, z))
 
+-- the thread of its full code and its row
+abbrev conditionPart : ℕ → ℕ
+conditionPart code = cond (ltb code 6) code (code - 5)
+
+abbrev fullThread : List ℕ → Thread
+fullThread row =
+    record {
+      live = ltb (getD row 0 0) 6;
+      priority = getD row 1 0;
+      first = getD row 2 0;
+      condition = anyCondition (conditionPart (getD row 0 0)) (getD row 3 0);
+      ticks = getD row 4 0;
+      wake = wakeFrom (getD row 5 0);
+      reply = getD row 6 0;
+    }
+
+abbrev codeFor : Bool → Condition → ℕ
+codeFor live c = cond live (conditionCode c) (5 + conditionCode c)
+
+code-back : (live : Bool) (c : Condition)
+    → (ltb (codeFor live c) 6 ≡ live) × (anyCondition (conditionPart (codeFor live c)) (conditionData c) ≡ c)
+code-back true Ready = (refl, refl)
+code-back true Asleep = (refl, refl)
+code-back true (ForSemaphore i) = (refl, refl)
+code-back true (ForEvent i) = (refl, refl)
+code-back true (ForMessage mask) = (refl, refl)
+code-back false Ready = (refl, refl)
+code-back false Asleep = (refl, refl)
+code-back false (ForSemaphore i) = (refl, refl)
+code-back false (ForEvent i) = (refl, refl)
+code-back false (ForMessage mask) = (refl, refl)
+
+-- one full code has one code
+shown : (live : Bool) (c : Condition) → cond live (conditionCode c) 0 ≡ cond (ltb (codeFor live c) 6) (codeFor live c) 0
+shown true c = rw (code-back true c .0)
+shown false c = rw (code-back false c .0)
+
+pub full-code : (r s : Thread) → fullCode r ≡ fullCode s → threadCode r ≡ threadCode s
+full-code r s e =
+    shown (r .live) (r .condition) ∙ ap (λ (n : ℕ). cond (ltb n 6) n 0) e ∙ sym (shown (s .live) (s .condition))
+
+full-back : (r : Thread) → fullThread (fullCode r ∷ threadRow r 0 0) ≡ r
+full-back r =
+    let (live, condition) = code-back (r .live) (r .condition) in
+    let wake = wake-back (r .wake) in
+    λ i. record {
+      live = live i;
+      priority = r .priority;
+      first = r .first;
+      condition = condition i;
+      ticks = r .ticks;
+      wake = wake i;
+      reply = r .reply;
+    }
+
 pub thread-back : (r : Thread) (place due : ℕ) → Dead r → ByteId (r .condition) → threadFrom (threadCode r) (threadRow r place due) ≡ r
 unfolding threadFrom conditionFrom
 thread-back r place due D b = by-back conditionFrom refl r place due D (condition-back (r .condition) b)
@@ -153,11 +208,9 @@ same-means : {A : Type 0} (row : A → List ℕ) (from : List ℕ → A) {r s : 
     → sameRow (row r) (row s) ≡ true → r ≡ s
 same-means row from {r} {s} p q h = sym p ∙ ap from (same-row (row r) (row s) h) ∙ q
 
-pub same-thread : (r s : Thread) → Dead r → Dead s → sameThread r s ≡ true → r ≡ s
+pub same-thread : (r s : Thread) → sameThread r s ≡ true → r ≡ s
 unfolding sameThread
-same-thread r s D E h =
-    same-means (λ r. threadCode r ∷ threadRow r 0 0) (λ row. threadBy anyCondition (getD row 0 0) (drop 1 row))
-    (by-back anyCondition refl r 0 0 D (any-back (r .condition))) (by-back anyCondition refl s 0 0 E (any-back (s .condition))) h
+same-thread r s h = same-means (λ r. fullCode r ∷ threadRow r 0 0) fullThread (full-back r) (full-back s) h
 
 pub same-semaphore : (r s : Semaphore) → sameSemaphore r s ≡ true → r ≡ s
 unfolding sameSemaphore
@@ -170,8 +223,3 @@ same-event r s h = same-means eventRow eventFrom (event-back r) (event-back s) h
 pub same-message : (r s : Message) → sameMessage r s ≡ true → r ≡ s
 unfolding sameMessage
 same-message r s h = same-means (λ r. messageRow r 0) messageFrom (message-back r 0) (message-back s 0) h
-
--- one that isn't live was none
-pub younger-dead : (c : Call) (r : Thread) → Dead r → Dead (youngerThread c r)
-unfolding youngerThread
-younger-dead c r D e = rw (D e) (cases (is c 1) (λ f. rw f) (λ f. rw f))

@@ -1,5 +1,4 @@
--- Two states that keep the rules are equal exactly if the test of their fields passes.
-use Prim.Native.Nat.{ℕ, suc}
+-- Two states are equal exactly if the test of their fields passes.
 use mathlib.Core.Path.{_≡_, refl}
 use mathlib.Core.Bool.{Bool, true, and-true, and-eq-true-iff, false≢true}
 use mathlib.Core.List.{List, [], _∷_}
@@ -10,13 +9,10 @@ use borrow.Author.Tests.{eqb-true}
 use Rattle.base_queue.specs.declared.Queue.{Queue}
 use Rattle.base_queue.proofs.Counts.{same}
 use Rattle.spec_kernel.specs.declared.records.Kernel.{Kernel}
-use Rattle.spec_kernel.specs.Records.{thread, noThread, noSemaphore, noEvent, noMessage}
-use Rattle.spec_rules.specs.Rules.{Sized, Rules}
-use Rattle.proof_rules.proofs.Ends.{before}
 use Rattle.spec_notes.specs.Rows.{eventRow, messageRow}
 use Rattle.spec_notes.specs.Touched.{sameRow, sameThread, sameSemaphore, sameEvent, sameMessage}
 use Rattle.spec_notes.specs.Same.{sameAll, sameQueue, numbersOf, sameNumbers, sameKernel}
-use Rattle.spec_notes.proofs.RecordsBack.{Dead, same-row, same-thread, same-semaphore, same-event, same-message}
+use Rattle.spec_notes.proofs.RecordsBack.{same-row, same-thread, same-semaphore, same-event, same-message}
 use Rattle.spec_notes.proofs.Slight.{row-same}
 use Rattle.spec_notes.proofs.Lengths.{thread-same, semaphore-same}
 
@@ -26,19 +22,13 @@ module _ {A : Type 0} (test : A → A → Bool) where
   all-same f [] = refl
   all-same f (x ∷ l) = rw (f x, all-same f l)
 
-  module _ (d : A) (P : A → Type 0) (means : (x y : A) → P x → P y → test x y ≡ true → x ≡ y) where
-    same-all : (l m : List A) → ((i : ℕ) → P (getD l i d)) → ((i : ℕ) → P (getD m i d)) → sameAll test l m ≡ true → l ≡ m
-    same-all [] [] f g h = refl
-    same-all [] (y ∷ m) f g h = absurd (false≢true h)
-    same-all (x ∷ l) [] f g h = absurd (false≢true h)
-    same-all (x ∷ l) (y ∷ m) f g h =
-        let (e, r) = and-eq-true-iff (test x y) (sameAll test l m) .0 h in
-        rw (means x y (f 0) (g 0) e, same-all l m (λ i. f (suc i)) (λ i. g (suc i)) r)
-
--- of any members
-same-list : {A : Type 0} (test : A → A → Bool) (d : A) → ((x y : A) → test x y ≡ true → x ≡ y) → (l m : List A) → sameAll test l m ≡ true
-    → l ≡ m
-same-list test d f l m h = same-all test d (λ _. Unit {0}) (λ x y _ _. f x y) l m (λ _. tt) (λ _. tt) h
+  same-list : ((x y : A) → test x y ≡ true → x ≡ y) → (l m : List A) → sameAll test l m ≡ true → l ≡ m
+  same-list means [] [] h = refl
+  same-list means [] (y ∷ m) h = absurd (false≢true h)
+  same-list means (x ∷ l) [] h = absurd (false≢true h)
+  same-list means (x ∷ l) (y ∷ m) h =
+      let (e, r) = and-eq-true-iff (test x y) (sameAll test l m) .0 h in
+      rw (means x y e, same-list means l m r)
 
 same-queue : (q p : Queue) → sameQueue q p ≡ true → q ≡ p
 unfolding sameQueue
@@ -71,34 +61,33 @@ kernel-same k =
       row-same (numbersOf k),
     )
 
-module _ (k u : Kernel) (D : (t : ℕ) → Dead (thread k t)) (E : (t : ℕ) → Dead (thread u t)) where
-  pub same-kernel : sameKernel k u ≡ true → k ≡ u
-  unfolding sameKernel
-  same-kernel h =
-      let (a, (b, (c, (d, (e, (f, (g, n))))))) = simp (and-true, and-eq-true-iff) at h in
-      let threads = same-all sameThread noThread Dead same-thread (k .threads) (u .threads) D E a in
-      let semaphores = same-list sameSemaphore noSemaphore same-semaphore (k .semaphores) (u .semaphores) b in
-      let events = same-list sameEvent noEvent same-event (k .events) (u .events) c in
-      let messages = same-list sameMessage noMessage same-message (k .messages) (u .messages) d in
-      let places = same-queue (k .places) (u .places) e in
-      let time = same-queue (k .time) (u .time) f in
-      let posted = same-queue (k .posted) (u .posted) g in
-      let numbers = same-numbers k u n in
-      λ i. record {
-        threads = threads i;
-        semaphores = semaphores i;
-        events = events i;
-        messages = messages i;
-        places = places i;
-        time = time i;
-        posted = posted i;
-        bits = getD (numbers i) 0 0;
-        uptime = getD (numbers i) 1 0;
-        unscheduled = getD (numbers i) 2 0;
-        critical = getD (numbers i) 3 0;
-        runner = getD (numbers i) 4 0;
-      }
+pub same-kernel : (k u : Kernel) → sameKernel k u ≡ true → k ≡ u
+unfolding sameKernel
+same-kernel k u h =
+    let (a, (b, (c, (d, (e, (f, (g, n))))))) = simp (and-true, and-eq-true-iff) at h in
+    let threads = same-list sameThread same-thread (k .threads) (u .threads) a in
+    let semaphores = same-list sameSemaphore same-semaphore (k .semaphores) (u .semaphores) b in
+    let events = same-list sameEvent same-event (k .events) (u .events) c in
+    let messages = same-list sameMessage same-message (k .messages) (u .messages) d in
+    let places = same-queue (k .places) (u .places) e in
+    let time = same-queue (k .time) (u .time) f in
+    let posted = same-queue (k .posted) (u .posted) g in
+    let numbers = same-numbers k u n in
+    λ i. record {
+      threads = threads i;
+      semaphores = semaphores i;
+      events = events i;
+      messages = messages i;
+      places = places i;
+      time = time i;
+      posted = posted i;
+      bits = getD (numbers i) 0 0;
+      uptime = getD (numbers i) 1 0;
+      unscheduled = getD (numbers i) 2 0;
+      critical = getD (numbers i) 3 0;
+      runner = getD (numbers i) 4 0;
+    }
 
-pub same-exactly : (k u : Kernel) → Sized k → Sized u → Rules k → Rules u → (sameKernel k u ≡ true) ↔ (k ≡ u)
-same-exactly k u Z Z′ R R′ =
-    (same-kernel k u (λ t. before k Z R .core .threads t .gone) (λ t. before u Z′ R′ .core .threads t .gone), λ e. rw e (kernel-same u))
+-- whatever the two states hold
+pub same-exactly : (k u : Kernel) → (sameKernel k u ≡ true) ↔ (k ≡ u)
+same-exactly k u = (same-kernel k u, λ e. rw e (kernel-same u))

@@ -35,8 +35,9 @@ use Rattle.proof_rules.proofs.Ends.{Before}
 use Rattle.proof_rules.proofs.Free.{free-id}
 use Rattle.proof_rules.proofs.Accepted.{Accepted}
 use Rattle.proof_rules.proofs.Steps.{ready-live, caller-ready}
-use Rattle.spec_notes.specs.Rows.{conditionCode, threadCode}
+use Rattle.spec_notes.specs.Rows.{conditionCode, threadCode, fullCode}
 use Rattle.spec_notes.specs.Touched.{sameThread, youngerThread, movesInPlace, touchedThread, touchedMessage}
+use Rattle.spec_notes.proofs.RecordsBack.{full-code}
 use Rattle.spec_notes.specs.Back.{earlier}
 use Rattle.spec_notes.specs.LeftAlone.{otherWay}
 
@@ -103,7 +104,10 @@ module _ (k : Kernel) (c : Call) (u : Kernel) (t : ℕ) where
   -- whose code changes
   pub touched-code : (threadCode (thread k t) ≡ threadCode (thread u t) → ⊥) → touchedThread k c u t ≡ true
   unfolding touchedThread sameThread youngerThread
-  touched-code ne = rw (ne-eqb (threadCode (thread k t)) (threadCode (thread u t)) ne)
+  touched-code ne =
+      let r = thread k t in
+      let s = thread u t in
+      rw (ne-eqb (fullCode r) (fullCode s) (λ e. ne (full-code r s e)))
 
   -- who moves in place
   touched-place : movesInPlace (k .runner) c t ≡ true → touchedThread k c u t ≡ true

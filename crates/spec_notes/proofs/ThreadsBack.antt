@@ -32,7 +32,7 @@ use Rattle.spec_notes.specs.Back.{putBackAll, Threading, readThreads, th
 use Rattle.spec_notes.specs.Within.{Within}
 use Rattle.spec_notes.specs.LeftAlone.{LeftAlone}
 use Rattle.spec_notes.proofs.RowsBack.{Fit, none, field, row-back, rest-back}
-use Rattle.spec_notes.proofs.RecordsBack.{ByteId, thread-back, same-thread, younger-dead}
+use Rattle.spec_notes.proofs.RecordsBack.{ByteId, thread-back, same-thread}
 use Rattle.spec_notes.proofs.EntriesBack.{getD-map, each, read-part, records-back}
 use Rattle.spec_notes.proofs.TablesBack.{place-below, table-back}
 
@@ -122,10 +122,9 @@ module _ (k : Kernel) (c : Call) (k′ : Kernel) where
 
     module _ (Z′ : Sized k′) (R′ : Rules k′) where
       untouched : (t : ℕ) → touched t ≡ false → youngerThread c (thread k′ t) ≡ thread k t
-      unfolding touchedThread DeadThreads
+      unfolding touchedThread
       untouched t h =
-          let younger = youngerThread c (thread k′ t) in
-          sym (same-thread (thread k t) younger (R .deadThreads t) (younger-dead c (thread k′ t) (R′ .deadThreads t)) (neither _ _ h))
+          sym (same-thread (thread k t) (youngerThread c (thread k′ t)) (neither _ _ h))
 
       pub threads-back : read .threads ≡ k .threads
       threads-back =

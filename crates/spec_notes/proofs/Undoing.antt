@@ -171,7 +171,7 @@ module _ (k′ : Kernel) (note : List ℕ) where
         let R₀ = rules-mean k Z₀ r in
         let n₀ = eqb-true (numberOf k c) 0 n in
         let (Z₁, R₁) = rules-kept k c Z₀ R₀ n₀ in
-        let s₀ = same-exactly (scheduled (effect k c)) k′ Z₁ Z R₁ R .0 s in
+        let s₀ = same-exactly (scheduled (effect k c)) k′ .0 s in
         record {
           sized = Z₀;
           inside = limits-within (before k Z₀ R₀) (found-limits l);

@@ -11,7 +11,7 @@ use Rattle.spec_kernel.specs.declared.records.Kernel.{Kernel}
 use Rattle.spec_kernel.specs.Records.{thread, semaphore, event, message}
 use Rattle.spec_calls.specs.declared.call.Call.{Call}
 use Rattle.spec_refusals.specs.Refusals.{is, isOneOf}
-use Rattle.spec_notes.specs.Rows.{threadCode, threadRow, semaphoreRow, eventRow, messageRow}
+use Rattle.spec_notes.specs.Rows.{fullCode, threadRow, semaphoreRow, eventRow, messageRow}
 
 -- two rows are the same
 abbrev pub sameRow : List ℕ → List ℕ → Bool
@@ -21,7 +21,7 @@ sameRow (x ∷ xs) [] = false
 sameRow (x ∷ xs) (y ∷ ys) = let r = sameRow xs ys in eqb x y && r
 
 unfoldable pub sameThread : Thread → Thread → Bool
-sameThread r s = eqb (threadCode r) (threadCode s) && sameRow (threadRow r 0 0) (threadRow s 0 0)
+sameThread r s = eqb (fullCode r) (fullCode s) && sameRow (threadRow r 0 0) (threadRow s 0 0)
 
 unfoldable pub sameSemaphore : Semaphore → Semaphore → Bool
 sameSemaphore r s = sameRow (semaphoreRow r) (semaphoreRow s)

@@ -17,13 +17,27 @@ use Rattle.spec_notes.specs.Notes.{beforeLength, noteOf, longestNote}
 use Rattle.code_notes.proofs.BeforeLength.{note-closed, note-short}
 use Rattle.code_notes.proofs.Sizes.{composed}
 use Rattle.spec_answers.specs.declared.Answer.{Answer}
+use Rattle.spec_answers.specs.declared.Logged.{Logged}
 use Rattle.spec_answers.specs.Steps.{nextState}
-use Rattle.spec_answers.specs.Logs.{logged, stateAfter}
+use Rattle.spec_answers.specs.Logs.{logged, stateAfter, recorded, logAfter}
+use Rattle.spec_answers.specs.Promises.{AnsweredUntested}
+use Rattle.spec_answers.proofs.WithLogs.{answers-untested}
+use Rattle.spec_answers.proofs.FromTypes.{of-types, is-record}
 use Rattle.code_answers.proofs.Numbers.{number-by, value-by}
 use Rattle.code_answers.proofs.Recording.{ends-refused, Left, left}
 use Rattle.code_answers.proofs.Sections.{one-by-one}
 use Rattle.code_answers.proofs.recorded.Statement.{statement}
 use Rattle.code_answers.proofs.recorded.Tie as tie
+
+-- what is promised of the definition's result
+promised : (s : tie.Start) (r : Logged) (log′ : List ℕ)
+    → (let a = s .args in
+    (r ≡ recorded (a .k) (a .bytes) (a .log .now) (a .used)) × (log′ ≡ logAfter (a .k) (a .bytes) (a .log .now) (a .used)))
+    → (let a = s .args in AnsweredUntested (a .k) (a .bytes) (a .log .now) (a .used) r log′)
+promised s r log′ (e, f) =
+    let a = s .args in
+    let T = of-types (a .k) _ (s .good .0) in
+    rw (e, f) (answers-untested (a .k) (a .bytes) (a .log .now) (a .used) T (is-record (a .bytes) _ (s .good .1 .0)))
 
 call-of-requires : tie.Need-call-of-requires
 call-of-requires c κs = search needs
@@ -50,9 +64,10 @@ number c =
 
 returns : tie.Need-returns
 returns c =
-    let a = c .before .before .before .before .before .before .args in
+    let s = c .before .before .before .before .before .before in
+    let a = s .args in
     let (r, l) = ends-refused (a .k) (a .bytes) (a .log .now) (a .used) _ (number (c .before .before)) (c .before .if1 .taken) in
-    (c .refused .ensures ∙ r, l)
+    promised s _ _ (c .refused .ensures ∙ r, l)
 
 next-state-requires : tie.Need-next-state-requires
 next-state-requires c κs = search needs
@@ -200,9 +215,10 @@ returns-2 : tie.Need-returns-2
 returns-2 c =
     let w : tie.After-write = c .before .before .before .before in
     let m = messages-of (end-of w) in
-    let used = number-of m .before .before .before .before .args .used in
+    let s = number-of m .before .before .before .before in
     let l = written w in
-    (ap (λ (x : Answer). logged x (kernel m) used) (c .before .given .ensures) ∙ l .no-room (c .if2 .taken), l .log-after)
+    promised s _ _
+    (ap (λ (x : Answer). logged x (kernel m) (s .args .used)) (c .before .given .ensures) ∙ l .no-room (c .if2 .taken), l .log-after)
 
 same-length-2 : tie.Need-same-length-2
 same-length-2 c = search needs
@@ -210,8 +226,10 @@ same-length-2 c = search needs
 returns-3 : tie.Need-returns-3
 returns-3 c =
     let w : tie.After-write = c .before .before .before .before in
-    let u = next (messages-of (end-of w)) in
+    let m = messages-of (end-of w) in
+    let u = next m in
     let l = written w in
+    promised (number-of m .before .before .before .before) _ _
     (ap (λ (x : Answer). logged x u (w .write .result)) (c .before .given .ensures) ∙ l .with-room (c .if2 .left), l .log-after)
 
 pub recorded-spec : {M : Type 1} → statement M

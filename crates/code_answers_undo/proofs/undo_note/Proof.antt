@@ -39,7 +39,7 @@ returns c =
     let a = c .before .before .before .before .before .args in
     let note = a .note .now in
     let e : framesOf note ≡ nothing =
-    sym (c .before .before .before .frames-of .ensures) ∙ ap (λ (d : Decoded). meant d note) (c .before .enum-told .given .1) in
+    sym (c .before .before .before .frames-of .ensures .1) ∙ ap (λ (d : Decoded). meant d note) (c .before .enum-told .given .1) in
     rw (note-none (a .k) note e) (c .refused .ensures)
 
 call-bytes-requires : tie.Need-call-bytes-requires
@@ -68,7 +68,7 @@ abbrev old : tie.After-p → Kernel
 old c = stateBefore (callOf (callBytes (note₀ c))) (k₀ c) (parts c)
 
 framed : (c : tie.After-p) → framesOf (note₀ c) ≡ sections (parts c)
-framed c = sym (c .before .before .frames-of .ensures) ∙ ap (λ (d : Decoded). meant d (note₀ c)) (c .p .given .1)
+framed c = sym (c .before .before .frames-of .ensures .1) ∙ ap (λ (d : Decoded). meant d (note₀ c)) (c .p .given .1)
 
 -- the call record
 record-read : (c : tie.After-call-bytes) → c .call-bytes .result ≡ callBytes (note₀ (c .before .before))

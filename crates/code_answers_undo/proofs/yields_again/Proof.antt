@@ -57,7 +57,7 @@ returns-2 : tie.Need-returns-2
 returns-2 c = λ l.
     let d : tie.After-recorded = c .before .before .before in
     again-refused (old₀ d) (bytes₀ d) (end₀ d) (note₀ d) l (rules d)
-    (run-refused (old₀ d) (bytes₀ d) (sixteen d) _ (d .recorded .ensures .0) (c .if2 .taken))
+    (run-refused (old₀ d) (bytes₀ d) (sixteen d) _ (d .recorded .ensures .result) (c .if2 .taken))
 
 same-kernel-requires : tie.Need-same-kernel-requires
 same-kernel-requires c κs = search needs
@@ -70,9 +70,9 @@ ran : (c : tie.After-recorded) → c .recorded .result .answer .number ≡ 0
     × (take (l .used) (c .recorded .last .1 .1 .0) ≡ noteFor (old₀ c) (bytes₀ c)) × (l .used ≡ length (noteFor (old₀ c) (bytes₀ c)))
 ran c z =
     let e = c .recorded .ensures in
-    let (x, y, w) = note-stands (old₀ c) (bytes₀ c) (sixteen c) _ (e .0) z _ (e .1) in (
-      run-accepted (old₀ c) (bytes₀ c) (sixteen c) _ (e .0) z .0,
-      run-next (old₀ c) (bytes₀ c) (sixteen c) _ (e .0) z,
+    let (x, y, w) = note-stands (old₀ c) (bytes₀ c) (sixteen c) _ (e .result) z _ (e .written) in (
+      run-accepted (old₀ c) (bytes₀ c) (sixteen c) _ (e .result) z .0,
+      run-next (old₀ c) (bytes₀ c) (sixteen c) _ (e .result) z,
       x,
       y,
       w,
@@ -88,7 +88,7 @@ returns-3 c = λ l.
     let d = run-of s in
     let (n, e, _, _, _) = ran d (s .before .before .if2 .left) in
     again-other (old₀ d) (bytes₀ d) (end₀ d) (note₀ d) l (rules d) n _ e
-    (sym (s .same-kernel .ensures) ∙ not-true (s .same-kernel .result) (c .if3 .taken))
+    (sym (s .same-kernel .ensures .0) ∙ not-true (s .same-kernel .result) (c .if3 .taken))
 
 returns-4 : tie.Need-returns-4
 returns-4 c = λ l.
@@ -97,7 +97,7 @@ returns-4 c = λ l.
     let (n, e, _, _, w) = ran d (s .before .before .if2 .left) in
     other-length (noteFor (old₀ d) (bytes₀ d)) (note₀ d) (λ h. c .if4 .taken (w ∙ h))
     ∙ again-note (old₀ d) (bytes₀ d) (end₀ d) (note₀ d) l (rules d) n _ e
-    (sym (s .same-kernel .ensures) ∙ not-false (s .same-kernel .result) (c .before .if3 .left))
+    (sym (s .same-kernel .ensures .0) ∙ not-false (s .same-kernel .result) (c .before .if3 .left))
 
 array-share-prefix-again : tie.Need-array-share-prefix-again
 array-share-prefix-again c =
@@ -121,7 +121,7 @@ returns-5 c = λ l.
     let b : begins (take (d .recorded .result .used) (d .recorded .last .1 .1 .0)) (note₀ d) ≡ begins note (note₀ d) = rw t in
     c .same-bytes .ensures ∙ b ∙ begins-same note (note₀ d) (sym w ∙ c .before .before .if4 .left)
     ∙ again-note (old₀ d) (bytes₀ d) (end₀ d) (note₀ d) l (rules d) n _ e
-    (sym (s .same-kernel .ensures) ∙ not-false (s .same-kernel .result) (c .before .before .before .if3 .left))
+    (sym (s .same-kernel .ensures .0) ∙ not-false (s .same-kernel .result) (c .before .before .before .if3 .left))
 
 pub yields-again-spec : {M : Type 1} → statement M
 yields-again-spec =

@@ -9,7 +9,7 @@ use Rattle.code_notes_frame.proofs.frames.frames_of.Statement.{statemen
 use Rattle.code_notes_frame.proofs.frames.frames_of.Tie as tie
 
 returns : tie.Need-returns
-returns c = sym (frames-short (c .before .before .args .note .now) (c .if1 .taken))
+returns c = frames-short (c .before .before .args .note .now) (c .if1 .taken)
 
 sub-if2 : tie.Need-sub-if2
 sub-if2 c = search needs
@@ -23,16 +23,15 @@ start-of-requires c κs = search needs
 returns-2 : tie.Need-returns-2
 returns-2 c =
     let p = c .before .before .part-of .ensures in
-    sym
-    (frames-none (c .before .before .before .before .before .args .note .now)
-    (λ h. c .if2 .taken (c .before .start-of .ensures .0 ∙ rw p h)))
+    frames-none (c .before .before .before .before .before .args .note .now)
+    (λ h. c .if2 .taken (c .before .start-of .ensures .0 ∙ rw p h))
 
 returns-3 : tie.Need-returns-3
 returns-3 c =
     let p = c .before .before .part-of .ensures in
     let e : startFrom (c .before .before .part-of .result .now) sectionCount 0 ≡ length (c .before .before .part-of .result .now) =
     sym (c .before .start-of .ensures .0) ∙ c .if2 .left in
-    sym (frames-fit (c .before .before .before .before .before .args .note .now) (rw p at e))
+    frames-fit (c .before .before .before .before .before .args .note .now) (rw p at e)
 
 pub frames-of-spec : {M : Type 1} → statement M
 frames-of-spec =

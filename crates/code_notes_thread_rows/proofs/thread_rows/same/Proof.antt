@@ -7,7 +7,7 @@ use lib.ListN.{getD}
 use borrow.Author.Needs.{needs}
 use borrow.Author.Tests.{eq-eqb, ne-eqb}
 use Rattle.spec_kernel.specs.declared.records.Thread.{Thread}
-use Rattle.spec_notes.specs.Rows.{threadCode, conditionData, wakeCode, threadRow}
+use Rattle.spec_notes.specs.Rows.{fullCode, conditionData, wakeCode, threadRow}
 use Rattle.spec_notes.specs.Touched.{sameThread}
 use Rattle.code_notes_entries.proofs.RowFields.{row-other}
 use Rattle.code_notes_thread_rows.proofs.thread_rows.same.Statement.{statement}
@@ -20,7 +20,7 @@ other r s i h = sym (rw (row-other (threadRow r 0 0) (threadRow s 0 0) i refl h,
 
 -- nothing but their replies can differ
 by-reply : (r s : Thread)
-    → threadCode r ≡ threadCode s → r .priority ≡ s .priority → r .first ≡ s .first
+    → fullCode r ≡ fullCode s → r .priority ≡ s .priority → r .first ≡ s .first
     → conditionData (r .condition) ≡ conditionData (s .condition) → r .ticks ≡ s .ticks → wakeCode (r .wake) ≡ wakeCode (s .wake)
     → eqb (r .reply) (s .reply) ≡ sameThread r s
 unfolding sameThread
@@ -66,15 +66,15 @@ start-4 c = start-3 (past-3 c)
 abbrev start-5 : tie.Else5 → tie.Start
 start-5 c = start-4 (past-4 c)
 
-code-of-requires : tie.Need-code-of-requires
-code-of-requires c κs = search needs
+full-code-requires : tie.Need-full-code-requires
+full-code-requires c κs = search needs
 
-code-of-requires-2 : tie.Need-code-of-requires-2
-code-of-requires-2 c κs = search needs
+full-code-requires-2 : tie.Need-full-code-requires-2
+full-code-requires-2 c κs = search needs
 
 returns : tie.Need-returns
 unfolding sameThread
-returns c = rw (← c .before .before .code-of .ensures, ← c .before .code-of2 .ensures, ne-eqb _ _ (c .if1 .taken))
+returns c = rw (← c .before .before .full-code .ensures, ← c .before .full-code2 .ensures, ne-eqb _ _ (c .if1 .taken))
 
 returns-2 : tie.Need-returns-2
 returns-2 c = let a = start-1 (c .before .before .before) .args in other (a .r) (a .s) 0 (c .if2 .taken)
@@ -108,8 +108,8 @@ returns-6 c =
     other (a .r) (a .s) 4 (λ e. c .if6 .taken (c .before .before .wake-code .ensures ∙ e ∙ sym (c .before .wake-code2 .ensures)))
 
 -- ---- what each of the tests that called found equal
-codes : (c : tie.Else1) → let a = start-1 c .args in threadCode (a .r) ≡ threadCode (a .s)
-codes c = sym (c .before .before .code-of .ensures) ∙ c .if1 .left ∙ c .before .code-of2 .ensures
+codes : (c : tie.Else1) → let a = start-1 c .args in fullCode (a .r) ≡ fullCode (a .s)
+codes c = sym (c .before .before .full-code .ensures) ∙ c .if1 .left ∙ c .before .full-code2 .ensures
 
 data-same : (c : tie.Else4) → let a = start-4 c .args in conditionData (a .r .condition) ≡ conditionData (a .s .condition)
 data-same c = sym (c .before .before .data-of .ensures) ∙ c .if4 .left ∙ c .before .data-of2 .ensures
@@ -132,8 +132,8 @@ pub same-spec : {M : Type 1} → statement M
 same-spec =
     tie.close
     (tie.spec
-    code-of-requires
-    code-of-requires-2
+    full-code-requires
+    full-code-requires-2
     returns
     returns-2
     returns-3

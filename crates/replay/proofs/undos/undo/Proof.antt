@@ -4,11 +4,26 @@ use borrow.Author.Tests.{not-true, not-false}
 use Rattle.spec_rules.specs.Tests.{keepsRules}
 use Rattle.spec_notes.specs.Undo.{hasLast}
 use Rattle.spec_notes.specs.Undoes.{undoes}
+use Rattle.spec_answers.specs.declared.Logged.{Logged}
 use Rattle.spec_answers.specs.Logs.{undone}
+use Rattle.spec_answers.specs.Promises.{Undone}
+use Rattle.spec_answers.proofs.Undos.{undoes-so}
+use Rattle.spec_answers.proofs.FromTypes.{of-types}
+use Rattle.spec_notes.specs.Within.{AreBytes}
+use native.Mathlib.Omega.{arith}
 use Rattle.code_answers_undo.proofs.Again.{last-within, undone-part}
 use borrow.Author.Needs.{needs}
 use Rattle.replay.proofs.undos.undo.Statement.{statement}
 use Rattle.replay.proofs.undos.undo.Tie as tie
+
+-- what is promised of the definition's result; each slice that is lent is known to hold bytes
+promised : (s : tie.After-shared-slice-known) (r : Logged)
+    → (let a = s .before .args in r ≡ undone (a .k) (a .log .now) (a .used))
+    → (let a = s .before .args in Undone (a .k) (a .log .now) (a .used) r)
+promised s r e =
+    let a = s .before .args in
+    let b : AreBytes (a .log .now) = λ i. omega (arith, s .shared-slice-known .given i) in
+    rw e (undoes-so (a .k) (a .log .now) (a .used) (of-types (a .k) _ (s .before .good .0)) b)
 
 keeps-rules-requires : tie.Need-keeps-rules-requires
 keeps-rules-requires c κs = search needs
@@ -22,7 +37,7 @@ returns c =
     let a = c .before .before .before .before .args in
     let t = c .before .before .keeps-rules in
     let broken : keepsRules (a .k) ≡ false = sym (t .ensures) ∙ not-true (t .result) (c .before .if1 .taken) in
-    rw broken (c .refused .ensures)
+    promised (c .before .before .before) _ (rw broken (c .refused .ensures))
 
 has-last-requires : tie.Need-has-last-requires
 has-last-requires c κs = search needs
@@ -39,7 +54,7 @@ returns-2 c =
     ∙ not-false (c .before .before .before .before .keeps-rules .result) (c .before .before .before .if1 .left) in
     let t = c .before .before .has-last in
     let none : hasLast (a .log .now) (a .used) ≡ false = sym (t .ensures) ∙ not-true (t .result) (c .before .if2 .taken) in
-    rw (r, none) (c .refused2 .ensures)
+    promised (c .before .before .before .before .before) _ (rw (r, none) (c .refused2 .ensures))
 
 last-length-requires : tie.Need-last-length-requires
 last-length-requires c κs = search needs
@@ -76,7 +91,8 @@ returns-3 c =
     (c .before .before .before .before .before .if1 .left) in
     let t = c .before .before .before .before .has-last in
     let has : hasLast (a .log .now) (a .used) ≡ true = sym (t .ensures) ∙ not-false (t .result) (c .before .before .before .if2 .left) in
-    c .undo-note .ensures ∙ undone-part (a .log .now) (a .used) has (a .k) _ r (c .before .before .last-length .ensures)
+    promised (c .before .before .before .before .before .before .before) _
+    (c .undo-note .ensures ∙ undone-part (a .log .now) (a .used) has (a .k) _ r (c .before .before .last-length .ensures))
 
 pub undo-spec : {M : Type 1} → statement M
 undo-spec =

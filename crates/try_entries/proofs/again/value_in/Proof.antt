@@ -30,7 +30,7 @@ abbrev parts : tie.After-p → List (List ℕ)
 parts c = sectionsAt sectionCount (partOf (c .p .given .0 .0) (note₀ c))
 
 framed : (c : tie.After-p) → framesOf (note₀ c) ≡ sections (parts c)
-framed c = sym (c .before .before .frames-of .ensures) ∙ ap (λ (d : Decoded). meant d (note₀ c)) (c .p .given .1)
+framed c = sym (c .before .before .frames-of .ensures .1) ∙ ap (λ (d : Decoded). meant d (note₀ c)) (c .p .given .1)
 
 section-in : (c : tie.After-part-of) (i : ℕ)
     → getD (sectionsAt sectionCount (c .part-of .result .now)) i [] ≡ getD (parts (c .before .before)) i []
@@ -50,7 +50,7 @@ unfolding valueIn
 returns c =
     let note = c .before .before .before .before .args .note .now in
     let e : framesOf note ≡ nothing =
-    sym (c .before .before .frames-of .ensures) ∙ ap (λ (d : Decoded). meant d note) (c .enum-told .given .1) in
+    sym (c .before .before .frames-of .ensures .1) ∙ ap (λ (d : Decoded). meant d note) (c .enum-told .given .1) in
     rw e (same 255 (eqb (getD note 0 0) 2) (eqb (getD note 0 0) 14) (eqb (getD note 0 0) 24 || eqb (getD note 0 0) 27))
 
 part-of-requires : tie.Need-part-of-requires

@@ -28,7 +28,7 @@ unfolding cameBack
 returns-3 c =
     let e = c .before in
     let d = e .before .before in
-    rw (passed (d .before .same-answer .ensures) (d .if1 .left), eq-eqb _ _ (e .if2 .left), and-true) (c .same-kernel .ensures)
+    rw (passed (d .before .same-answer .ensures) (d .if1 .left), eq-eqb _ _ (e .if2 .left), and-true) (c .same-kernel .ensures .0)
 
 pub came-back-spec : {M : Type 1} → statement M
 came-back-spec = tie.close (tie.spec same-answer-requires returns returns-2 same-kernel-requires returns-3)
