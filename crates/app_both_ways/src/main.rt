@@ -1,5 +1,6 @@
 // Both ways: records from standard input to its end, a line each, with all notes in one log; then every note undone, a line
 // each, the uptime, and whether the state is the fresh one again.
+ghost use Rattle.spec_rules.specs.Rules.{Rules};
 use base_bytes::pens;
 use replay::undos;
 use spec_answers::Answer;
@@ -35,9 +36,12 @@ fn put_undo(out: &mut [u8], a: Answer, used: usize) -> usize {
 
 // ---- forward
 
-// The whole records of s, and their lines; a shorter tail is dropped. The fresh state keeps its rules, and so does every state after
-// it, so that no call tests them again. A call never shortens the used part of the log.
-fn forward(start: Run, s: &[u8], log: &mut [u8]) -> Run {
+// The whole records of s, and their lines; a shorter tail is dropped. The state keeps its rules, and so does every state after it, so that
+// no call tests them again. A call never shortens the used part of the log.
+fn forward(start: Run, s: &[u8], log: &mut [u8]) -> Run
+    requires { ⌜ Rules (start .kernel) ⌝ }
+    ensures { λ r. ⌜ Rules (r .kernel) ⌝ }
+{
     let mut out = [0u8; 16384];
     let mut run = start;
     let mut end: usize = 0;
@@ -60,7 +64,9 @@ fn forward(start: Run, s: &[u8], log: &mut [u8]) -> Run {
 }
 
 // Standard input to its end, from fresh, in chunks.
-fn all_forward(log: &mut [u8; 1048576]) -> Run {
+fn all_forward(log: &mut [u8; 1048576]) -> Run
+    ensures { λ r. ⌜ Rules (r .kernel) ⌝ }
+{
     let mut input = io::buffer();
     let mut run = Run {
         kernel: replay::fresh(),

@@ -1,5 +1,6 @@
 // A program for timing: at most 4,096 records from standard input, run 256 times, each time from fresh with an empty log, and
 // no line for a call. It prints how many records a round has, and of all rounds the accepted calls and the bytes of their notes.
+ghost use Rattle.spec_rules.specs.Rules.{Rules};
 use spec_kernel::records::Kernel;
 
 // The accepted calls and the bytes of their notes, of one round or of all so far.
@@ -13,10 +14,13 @@ fn one_if(accepted: bool) -> u64 {
     if accepted { 1 } else { 0 }
 }
 
-// The whole records of s; a shorter tail is dropped. No call tests the state rules: fresh keeps them, and so does every state after it.
+// The whole records of s; a shorter tail is dropped. No call tests the state rules: the first state keeps them, and so does every state
+// after it.
 // The state to start from comes from outside, by two calls: were it made here, the compiler would take it apart, and copy every state
 // after it field by field.
-fn round(fresh: Kernel, s: &[u8], log: &mut [u8]) -> Total {
+fn round(fresh: Kernel, s: &[u8], log: &mut [u8]) -> Total
+    requires { ⌜ Rules fresh ⌝ }
+{
     let mut k = fresh;
     let mut used: usize = 0;
     let mut accepted: u64 = 0;

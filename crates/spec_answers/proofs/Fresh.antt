@@ -14,7 +14,7 @@ use Rattle.spec_kernel.specs.Sizes.{threadCount, semaphoreCount, eventCount, me
 use Rattle.spec_kernel.specs.Records.{noThread, noSemaphore, noEvent, noMessage, freshEvent, fresh, thread, semaphore, event, message}
 use Rattle.spec_kernel.specs.Places.{homeOf}
 use Rattle.spec_kernel.specs.Runner.{chosen}
-use Rattle.spec_rules.specs.Rules.{Sized}
+use Rattle.spec_rules.specs.Rules.{Sized, Rules}
 use Rattle.spec_rules.specs.Tests.{isNoThread, isNoSemaphore, isNoMessage, threadKept, semaphoreKept, messageKept, threadsKept}
 use Rattle.spec_rules.specs.Tests.{semaphoresKept, messagesKept, inRank, inTime, inStream, placesKept, timeKept, postedKept, runnerKept}
 use Rattle.spec_rules.specs.Tests.{keepsRules}
@@ -95,7 +95,9 @@ unfolding
     messagesKept inRank inTime inStream placesKept timeKept postedKept runnerKept keepsRules
 fresh-passes = refl
 
+pub fresh-rules : Rules fresh
+fresh-rules = rules-mean fresh fresh-sized fresh-passes
+
 pub fresh-is-undamaged : FreshIsUndamaged
 unfolding FreshIsUndamaged
-fresh-is-undamaged =
-    record { types = record { sized = fresh-sized; within = fresh-within }; rules = rules-mean fresh fresh-sized fresh-passes }
+fresh-is-undamaged = record { types = record { sized = fresh-sized; within = fresh-within }; rules = fresh-rules }

@@ -241,6 +241,12 @@ unfolding calledWith logCalled
 answers-untested k bytes log used T B =
     record { result = refl; written = refl; answered = λ R. rw (rules-hold k (T .sized) R) at (answers k bytes log used T B) }
 
+-- so a state that keeps the rules is followed by one that does
+pub rules-go-on : {k : Kernel} {bytes log : List ℕ} {used : ℕ} {r : Logged} {log′ : List ℕ}
+    → AnsweredUntested k bytes log used r log′ → Rules k → Rules (r .kernel)
+unfolding RulesAreKept
+rules-go-on A R = A .answered R .rulesAreKept R .1
+
 pub appends : (k : Kernel) (bytes log : List ℕ) (used : ℕ) → Appended k bytes log used (partCalled k bytes log used)
 appends k bytes log used =
     record {

@@ -1,11 +1,13 @@
 use mathlib.Core.Path.{_≡_}
 use lib.ListN.{length}
 use borrow.Author.Needs.{needs}
+use Rattle.spec_rules.specs.Rules.{Rules}
+use Rattle.spec_answers.proofs.Fresh.{fresh-rules}
 use Rattle.app_both_ways.proofs.all_forward.Statement.{statement}
 use Rattle.app_both_ways.proofs.all_forward.Tie as tie
 
 abbrev Inv-loop : tie.InvT-loop
-Inv-loop log₀ input₀ run₀ turns₀ log input run turns = length input ≡ 4096
+Inv-loop log₀ input₀ run₀ turns₀ log input run turns = (length input ≡ 4096) × Rules (run .kernel)
 
 abbrev μ-loop : tie.MeasureT-loop
 μ-loop log₀ input₀ run₀ turns₀ log input run turns = turns
@@ -17,7 +19,7 @@ fresh-requires : tie.Need-fresh-requires Inv-loop μ-loop
 fresh-requires c κs = search needs
 
 loop-holds : tie.Need-loop-holds Inv-loop μ-loop
-loop-holds c = search needs
+loop-holds c = (search needs, rw (c .fresh .ensures) fresh-rules)
 
 slice-aggregate-read-full : tie.Need-slice-aggregate-read-full Inv-loop μ-loop
 slice-aggregate-read-full c = search needs
@@ -32,10 +34,10 @@ slice-aggregate-forward : tie.Need-slice-aggregate-forward Inv-loop μ-loop
 slice-aggregate-forward c = search needs
 
 forward-requires : tie.Need-forward-requires Inv-loop μ-loop
-forward-requires c κs = search needs
+forward-requires c κs = c .before .before .before .before .before .before .loop .inv .1
 
 returns : tie.Need-returns Inv-loop μ-loop
-returns c = search needs
+returns c = c .before .forward .ensures
 
 sub-turns : tie.Need-sub-turns Inv-loop μ-loop
 sub-turns c = search needs
@@ -44,10 +46,10 @@ loop-less : tie.Need-loop-less Inv-loop μ-loop
 loop-less c = search needs
 
 loop-again : tie.Need-loop-again Inv-loop μ-loop
-loop-again c = search needs
+loop-again c = (search needs, c .before .forward .ensures)
 
 returns-2 : tie.Need-returns-2 Inv-loop μ-loop
-returns-2 c = search needs
+returns-2 c = c .before .loop .inv .1
 
 pub all-forward-spec : {M : Type 1} → statement M
 all-forward-spec =

@@ -3,17 +3,19 @@ use mathlib.Core.Path.{_≡_}
 use lib.ListN.{length}
 use native.Mathlib.Omega.{arith}
 use borrow.Author.Needs.{needs}
+use Rattle.spec_rules.specs.Rules.{Rules}
+use Rattle.spec_answers.proofs.WithLogs.{rules-go-on}
 use Rattle.app_both_ways.proofs.forward.Statement.{statement}
 use Rattle.app_both_ways.proofs.forward.Tie as tie
 
 abbrev Inv-loop : tie.InvT-loop
-Inv-loop s log₀ out₀ run₀ end₀ at₀ log out run end at = (at ≤ length s) × (length out ≡ 16384) × (length log ≡ length log₀)
+Inv-loop s log₀ out₀ run₀ end₀ at₀ log out run end at = (at ≤ length s) × (length out ≡ 16384) × (length log ≡ length log₀) × Rules (run .kernel)
 
 abbrev μ-loop : tie.MeasureT-loop
 μ-loop s log₀ out₀ run₀ end₀ at₀ log out run end at = length s - at
 
 loop-holds : tie.Need-loop-holds Inv-loop μ-loop
-loop-holds c = search needs
+loop-holds c = (search needs, search needs, search needs, c .before .before .pre)
 
 sub-loop : tie.Need-sub-loop Inv-loop μ-loop
 sub-loop c = search needs
@@ -54,7 +56,9 @@ loop-less : tie.Need-loop-less Inv-loop μ-loop
 loop-less c = search needs
 
 loop-again : tie.Need-loop-again Inv-loop μ-loop
-loop-again c = search needs
+loop-again c =
+    let r = c .before .before .before .before .before .before .before .before in
+    (search needs, search needs, search needs, rules-go-on (r .recorded .ensures) (r .before .before .before .before .before .loop .inv .3))
 
 slice-aggregate-up-to : tie.Need-slice-aggregate-up-to Inv-loop μ-loop
 slice-aggregate-up-to c = search needs
@@ -69,7 +73,7 @@ same-length : tie.Need-same-length Inv-loop μ-loop
 same-length c = search needs
 
 returns : tie.Need-returns Inv-loop μ-loop
-returns c = search needs
+returns c = c .before .before .before .before .loop .inv .3
 
 pub forward-spec : {M : Type 1} → statement M
 forward-spec =

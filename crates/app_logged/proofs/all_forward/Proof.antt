@@ -1,11 +1,14 @@
 use mathlib.Core.Path.{_≡_}
 use lib.ListN.{length}
 use borrow.Author.Needs.{needs}
+use Rattle.spec_rules.specs.Rules.{Rules}
+use Rattle.spec_answers.proofs.WithLogs.{rules-go-on}
+use Rattle.spec_answers.proofs.Fresh.{fresh-rules}
 use Rattle.app_logged.proofs.all_forward.Statement.{statement}
 use Rattle.app_logged.proofs.all_forward.Tie as tie
 
 abbrev Inv-loop : tie.InvT-loop
-Inv-loop log₀ bytes₀ k₀ used₀ turns₀ log bytes k used turns = length bytes ≡ 16
+Inv-loop log₀ bytes₀ k₀ used₀ turns₀ log bytes k used turns = (length bytes ≡ 16) × Rules k
 
 abbrev μ-loop : tie.MeasureT-loop
 μ-loop log₀ bytes₀ k₀ used₀ turns₀ log bytes k used turns = turns
@@ -14,7 +17,7 @@ fresh-requires : tie.Need-fresh-requires Inv-loop μ-loop
 fresh-requires c κs = search needs
 
 loop-holds : tie.Need-loop-holds Inv-loop μ-loop
-loop-holds c = search needs
+loop-holds c = (search needs, rw (c .fresh .ensures) fresh-rules)
 
 slice-aggregate-read-full : tie.Need-slice-aggregate-read-full Inv-loop μ-loop
 slice-aggregate-read-full c = search needs
@@ -32,7 +35,7 @@ loop-less : tie.Need-loop-less Inv-loop μ-loop
 loop-less c = search needs
 
 loop-again : tie.Need-loop-again Inv-loop μ-loop
-loop-again c = search needs
+loop-again c = (search needs, rules-go-on (c .before .recorded .ensures) (c .before .before .before .before .before .before .before .before .loop .inv .1))
 
 up-to-requires : tie.Need-up-to-requires Inv-loop μ-loop
 up-to-requires c κs = search needs

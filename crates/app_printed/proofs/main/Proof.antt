@@ -1,11 +1,13 @@
 use mathlib.Core.Path.{_≡_}
 use lib.ListN.{length}
 use borrow.Author.Needs.{needs}
+use Rattle.spec_rules.specs.Rules.{Rules}
+use Rattle.spec_answers.proofs.Fresh.{fresh-rules}
 use Rattle.app_printed.proofs.main.Statement.{statement}
 use Rattle.app_printed.proofs.main.Tie as tie
 
 abbrev Inv-loop : tie.InvT-loop
-Inv-loop input₀ run₀ turns₀ input run turns = length input ≡ 4096
+Inv-loop input₀ run₀ turns₀ input run turns = (length input ≡ 4096) × Rules (run .kernel)
 
 abbrev μ-loop : tie.MeasureT-loop
 μ-loop input₀ run₀ turns₀ input run turns = turns
@@ -17,7 +19,7 @@ fresh-requires : tie.Need-fresh-requires Inv-loop μ-loop
 fresh-requires c κs = search needs
 
 loop-holds : tie.Need-loop-holds Inv-loop μ-loop
-loop-holds c = search needs
+loop-holds c = (search needs, rw (c .fresh .ensures) fresh-rules)
 
 slice-aggregate-read-full : tie.Need-slice-aggregate-read-full Inv-loop μ-loop
 slice-aggregate-read-full c = search needs
@@ -32,7 +34,7 @@ slice-aggregate-replayed : tie.Need-slice-aggregate-replayed Inv-loop μ-loop
 slice-aggregate-replayed c = search needs
 
 replayed-requires : tie.Need-replayed-requires Inv-loop μ-loop
-replayed-requires c κs = search needs
+replayed-requires c κs = c .before .before .before .before .before .loop .inv .1
 
 finished-requires : tie.Need-finished-requires Inv-loop μ-loop
 finished-requires c κs = search needs
@@ -47,7 +49,7 @@ loop-less : tie.Need-loop-less Inv-loop μ-loop
 loop-less c = search needs
 
 loop-again : tie.Need-loop-again Inv-loop μ-loop
-loop-again c = search needs
+loop-again c = (search needs, c .before .replayed .ensures)
 
 finished-requires-2 : tie.Need-finished-requires-2 Inv-loop μ-loop
 finished-requires-2 c κs = search needs

@@ -2,17 +2,19 @@ use Prim.Native.Nat.{_≤_, _-_}
 use mathlib.Core.Path.{_≡_}
 use lib.ListN.{length}
 use borrow.Author.Needs.{needs}
+use Rattle.spec_rules.specs.Rules.{Rules}
+use Rattle.spec_answers.proofs.WithLogs.{rules-go-on}
 use Rattle.app_printed.proofs.replayed.Statement.{statement}
 use Rattle.app_printed.proofs.replayed.Tie as tie
 
 abbrev Inv-loop : tie.InvT-loop
-Inv-loop s log₀ out₀ run₀ end₀ at₀ log out run end at = (at ≤ length s) × (length log ≡ 4096) × (length out ≡ 16384)
+Inv-loop s log₀ out₀ run₀ end₀ at₀ log out run end at = (at ≤ length s) × (length log ≡ 4096) × (length out ≡ 16384) × Rules (run .kernel)
 
 abbrev μ-loop : tie.MeasureT-loop
 μ-loop s log₀ out₀ run₀ end₀ at₀ log out run end at = length s - at
 
 loop-holds : tie.Need-loop-holds Inv-loop μ-loop
-loop-holds c = search needs
+loop-holds c = (search needs, search needs, search needs, c .before .pre)
 
 sub-loop : tie.Need-sub-loop Inv-loop μ-loop
 sub-loop c = search needs
@@ -51,7 +53,9 @@ loop-less : tie.Need-loop-less Inv-loop μ-loop
 loop-less c = search needs
 
 loop-again : tie.Need-loop-again Inv-loop μ-loop
-loop-again c = search needs
+loop-again c =
+    let r = c .before .before .before .before .before .before in
+    (search needs, search needs, search needs, rules-go-on (r .recorded .ensures) (r .before .before .before .before .before .loop .inv .3))
 
 slice-aggregate-up-to : tie.Need-slice-aggregate-up-to Inv-loop μ-loop
 slice-aggregate-up-to c = search needs
@@ -63,7 +67,7 @@ write-all-requires : tie.Need-write-all-requires Inv-loop μ-loop
 write-all-requires c κs = search needs
 
 returns : tie.Need-returns Inv-loop μ-loop
-returns c = search needs
+returns c = c .before .before .before .before .loop .inv .3
 
 pub replayed-spec : {M : Type 1} → statement M
 replayed-spec =

@@ -1,5 +1,6 @@
 use Prim.Native.Nat.{_≤_, _-_}
 use borrow.Author.Needs.{needs}
+use Rattle.spec_answers.proofs.Fresh.{fresh-rules}
 use Rattle.app_rounds.proofs.all_rounds.Statement.{statement}
 use Rattle.app_rounds.proofs.all_rounds.Tie as tie
 
@@ -13,13 +14,13 @@ fresh-requires : tie.Need-fresh-requires Inv-loop μ-loop
 fresh-requires c κs = search needs
 
 round-requires : tie.Need-round-requires Inv-loop μ-loop
-round-requires c κs = search needs
+round-requires c κs = rw (c .before .fresh .ensures) fresh-rules
 
 loop-holds : tie.Need-loop-holds Inv-loop μ-loop
 loop-holds c = search needs
 
 round-requires-2 : tie.Need-round-requires-2 Inv-loop μ-loop
-round-requires-2 c κs = search needs
+round-requires-2 c κs = rw (c .before .before .before .before .before .fresh .ensures) fresh-rules
 
 wrapping-add-u64-requires : tie.Need-wrapping-add-u64-requires Inv-loop μ-loop
 wrapping-add-u64-requires c κs = search needs

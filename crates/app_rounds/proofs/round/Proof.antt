@@ -3,17 +3,19 @@ use mathlib.Core.Path.{_≡_}
 use lib.ListN.{length}
 use native.Mathlib.Omega.{arith}
 use borrow.Author.Needs.{needs}
+use Rattle.spec_rules.specs.Rules.{Rules}
+use Rattle.spec_answers.proofs.WithLogs.{rules-go-on}
 use Rattle.app_rounds.proofs.round.Statement.{statement}
 use Rattle.app_rounds.proofs.round.Tie as tie
 
 abbrev Inv-loop : tie.InvT-loop
-Inv-loop s log₀ k₀ used₀ accepted₀ at₀ log k used accepted at = (at ≤ length s) × (length log ≡ length log₀)
+Inv-loop s log₀ k₀ used₀ accepted₀ at₀ log k used accepted at = (at ≤ length s) × (length log ≡ length log₀) × Rules k
 
 abbrev μ-loop : tie.MeasureT-loop
 μ-loop s log₀ k₀ used₀ accepted₀ at₀ log k used accepted at = length s - at
 
 loop-holds : tie.Need-loop-holds Inv-loop μ-loop
-loop-holds c = search needs
+loop-holds c = (search needs, search needs, c .before .before .pre)
 
 sub-loop : tie.Need-sub-loop Inv-loop μ-loop
 sub-loop c = search needs
@@ -48,7 +50,9 @@ loop-less : tie.Need-loop-less Inv-loop μ-loop
 loop-less c = search needs
 
 loop-again : tie.Need-loop-again Inv-loop μ-loop
-loop-again c = search needs
+loop-again c =
+    let r = c .before .before .before .before .before .before in
+    (search needs, search needs, rules-go-on (r .recorded .ensures) (r .before .before .before .before .before .loop .inv .2))
 
 same-length : tie.Need-same-length Inv-loop μ-loop
 same-length c = search needs

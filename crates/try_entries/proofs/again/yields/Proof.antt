@@ -25,7 +25,7 @@ unfolding yieldsNote
 returns c =
     rw (
       ← c .before .before .before .before .before .before .call-bytes .ensures,
-      ← c .before .before .before .before .called .ensures .0,
+      ← c .before .before .before .before .called .ensures .result,
       ← c .before .before .noted-answer .ensures,
       refused (c .before .came-back .ensures) (c .if1 .taken),
     )
@@ -41,10 +41,10 @@ unfolding yieldsNote
 returns-2 c =
     rw (
       ← c .before .before .before .before .before .before .before .before .call-bytes .ensures,
-      ← c .before .before .before .before .before .before .called .ensures .0,
+      ← c .before .before .before .before .before .before .called .ensures .result,
       ← c .before .before .before .before .noted-answer .ensures,
       passed (c .before .before .before .came-back .ensures) (c .before .before .if1 .left),
-      ← c .before .before .before .before .before .before .called .ensures .1,
+      ← c .before .before .before .before .before .before .called .ensures .written,
     ) (c .same-bytes .ensures)
 
 pub yields-spec : {M : Type 1} → statement M

@@ -11,7 +11,7 @@ same-length : tie.Need-same-length
 same-length c = search needs
 
 returns : tie.Need-returns
-returns c = ap length (c .before .before .append .ensures .0)
+returns c = ap length (c .before .before .append .ensures .0 .result)
 
 pub appended-spec : {M : Type 1} → statement M
 appended-spec = tie.close (tie.spec append-requires same-length returns)

@@ -23,7 +23,7 @@ returns : tie.Need-returns
 unfolding refusedAs
 returns c =
     rw (
-      ← c .before .before .before .before .before .before .before .before .called .ensures .1,
+      ← c .before .before .before .before .before .before .before .before .called .ensures .written,
       ne-eqb _ 0 (λ z. c .before .if1 .taken
           (c .before .before .before .before .appended .ensures ∙ z)),
     ) (c .ended .ensures)
@@ -41,8 +41,8 @@ returns-2 : tie.Need-returns-2
 unfolding refusedAs
 returns-2 c =
     rw (
-      ← c .before .before .before .before .before .before .before .before .before .called .ensures .1,
-      ← c .before .before .before .before .before .before .before .before .before .called .ensures .0,
+      ← c .before .before .before .before .before .before .before .before .before .called .ensures .written,
+      ← c .before .before .before .before .before .before .before .before .before .called .ensures .result,
       eq-eqb _ 0 (sym (c .before .before .before .before .before .appended .ensures) ∙ c .before .before .if1 .left),
     )
     (c .ended2 .ensures ∙ ap (outcome _) (c .before .came-back .ensures))

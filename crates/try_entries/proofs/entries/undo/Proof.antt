@@ -19,7 +19,7 @@ ended-requires c κs = search needs
 returns : tie.Need-returns
 unfolding undoTried
 returns c =
-    rw (← c .before .before .before .undo .ensures, eq-eqb _ 0 (c .before .before .if1 .taken))
+    rw (← c .before .before .before .undo .ensures .result, eq-eqb _ 0 (c .before .before .if1 .taken))
     (c .ended .ensures ∙ ap (outcome 0) (c .before .undone .ensures))
 
 without-value-requires : tie.Need-without-value-requires
@@ -35,7 +35,7 @@ returns-2 : tie.Need-returns-2
 unfolding undoTried
 returns-2 c =
     rw (
-      ← c .before .before .before .before .undo .ensures,
+      ← c .before .before .before .before .undo .ensures .result,
       ne-eqb _ 0 (c .before .before .before .if1 .left),
       ← c .before .before .without-value .ensures,
     ) (c .ended2 .ensures ∙ ap (outcome _) (c .before .came-back .ensures))

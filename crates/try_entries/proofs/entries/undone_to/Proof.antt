@@ -12,7 +12,7 @@ came-back-requires : tie.Need-came-back-requires
 came-back-requires c κs = search needs
 
 returns : tie.Need-returns
-returns c = rw (c .came-back .ensures, c .before .without-value .ensures, c .before .before .undo .ensures)
+returns c = rw (c .came-back .ensures, c .before .without-value .ensures, c .before .before .undo .ensures .result)
 
 pub undone-to-spec : {M : Type 1} → statement M
 undone-to-spec = tie.close (tie.spec undo-requires without-value-requires came-back-requires returns)
