@@ -21,7 +21,7 @@ use Rattle.spec_kernel.specs.declared.records.Message.{Message}
 use Rattle.spec_kernel.specs.Records.{noThread}
 use Rattle.spec_calls.specs.declared.call.Call.{Call}
 use Rattle.spec_refusals.specs.Refusals.{is}
-use Rattle.spec_notes.specs.Rows.{conditionCode, threadCode, fullCode, conditionData, wakeCode, threadRow, conditionFrom, wakeFrom, threadFrom}
+use Rattle.spec_notes.specs.Rows.{conditionCode, threadCode, codeFor, fullCode, conditionData, wakeCode, threadRow, conditionFrom, wakeFrom, threadFrom}
 use Rattle.spec_notes.specs.Rows.{semaphoreRow, semaphoreFrom, eventRow, eventFrom, messageRow, messageFrom}
 use Rattle.spec_notes.specs.Touched.{sameRow, sameThread, sameSemaphore, sameEvent, sameMessage, youngerThread}
 
@@ -129,9 +129,6 @@ fullThread row =
       wake = wakeFrom (getD row 5 0);
       reply = getD row 6 0;
     }
-
-abbrev codeFor : Bool → Condition → ℕ
-codeFor live c = cond live (conditionCode c) (5 + conditionCode c)
 
 code-back : (live : Bool) (c : Condition)
     → (ltb (codeFor live c) 6 ≡ live) × (anyCondition (conditionPart (codeFor live c)) (conditionData c) ≡ c)

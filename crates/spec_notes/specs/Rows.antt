@@ -1,6 +1,6 @@
 -- A record as a row of eight numbers, and a row as a record.
 use Prim.Native.Nat.{ℕ, _+_, _%_}
-use mathlib.Core.Bool.{cond, not}
+use mathlib.Core.Bool.{Bool, cond, not}
 use mathlib.Core.List.{List, [], _∷_}
 use lib.Dec.{eqb}
 use lib.ListN.{getD}
@@ -26,9 +26,12 @@ conditionCode (ForMessage mask) = 5
 abbrev pub threadCode : Thread → ℕ
 threadCode r = cond (r .live) (conditionCode (r .condition)) 0
 
--- the same, and of a thread that isn't live too what its condition is: five more, so that two records with one code have one condition
+-- the same, and of a thread that isn't live too what its condition is: five more, so that one code has one kind of condition
+abbrev pub codeFor : Bool → Condition → ℕ
+codeFor live c = cond live (conditionCode c) (5 + conditionCode c)
+
 abbrev pub fullCode : Thread → ℕ
-fullCode r = cond (r .live) (conditionCode (r .condition)) (5 + conditionCode (r .condition))
+fullCode r = codeFor (r .live) (r .condition)
 
 -- the object's id or the mask
 abbrev pub conditionData : Condition → ℕ
