@@ -3,7 +3,7 @@ use mathlib.Core.Path.{_≡_, sym, ap, _∙_}
 use Rattle.spec_kernel.specs.declared.records.Kernel.{Kernel}
 use Rattle.spec_kernel.specs.Records.{fresh}
 use Rattle.code_semaphores.specs.declared.waiting.Waiting.{Waiting}
-use Rattle.code_semaphores.specs.Waiting.{waitingOf, withWaiting, Does}
+use Rattle.code_semaphores.specs.Waiting.{waitingOf, Does}
 
 -- what is put into a state, here the fresh one, is found in it
 pub one-result : (f : Kernel → Kernel) (w x y : Waiting) → Does f w x → Does f w y → x ≡ y

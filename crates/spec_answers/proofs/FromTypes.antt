@@ -50,7 +50,8 @@ condition-tells (ForMessage mask) vs s = s .1 .1 .1 .1 .0 .1
 
 module _ (k : Kernel) (vs : List Val) (s : Is kernels.the-row k vs) where
   -- ---- of each record what its own type tells
-  of-threads : (P : Thread → Type 0) → P noThread → ((r : Thread) (us : List Val) → Is threads.the-row r us → P r) → (t : ℕ) → P (thread k t)
+  of-threads : (P : Thread → Type 0) → P noThread → ((r : Thread) (us : List Val) → Is threads.the-row r us → P r)
+      → (t : ℕ) → P (thread k t)
   of-threads P none tells = each-tells _ _ P noThread none tells (k .threads) _ (s .1 .1 .0 .1 .1)
 
   of-semaphores : (P : Semaphore → Type 0) → P noSemaphore → ((r : Semaphore) (us : List Val) → Is semaphores.the-row r us → P r)

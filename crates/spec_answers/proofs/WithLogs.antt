@@ -39,7 +39,8 @@ use Rattle.spec_answers.specs.Logs.{partAfter, calledWith, logCalled, pa
 use Rattle.spec_answers.specs.Runs.{IsRecord}
 use Rattle.spec_answers.specs.Promises.{BrokenIsRefused, TestedExactly, RefusedExactly, AcceptedExactly, RefusalChangesNothing}
 use Rattle.spec_answers.specs.Promises.{KindDoes, RulesAreKept, RunnerIsAnswered, FirstReadyRuns, RunnerStaysInRegion}
-use Rattle.spec_answers.specs.Promises.{NoteIsWritten, NotesAreShort, Answered, AnsweredUntested, Appended, OneResult, OnePart, AnsweredAlike}
+use Rattle.spec_answers.specs.Promises.{NoteIsWritten, NotesAreShort, Answered, AnsweredUntested, Appended}
+use Rattle.spec_answers.specs.Promises.{OneResult, OnePart, AnsweredAlike}
 use Rattle.spec_answers.proofs.RunnerStays.{effect-runner}
 
 -- 14 is none of the twelve numbers that the state and the call decide

@@ -113,7 +113,8 @@ pub record Answered (k : Kernel) (bytes log : List ℕ) (used : ℕ) (r : Logged
   pub noteIsWritten : NoteIsWritten k bytes log used r log′
   pub notesAreShort : NotesAreShort k bytes r
 
--- The same call without the test of the rules, for a run whose states are known to keep them: on such a state all of this is promised of it.
+-- The same call without the test of the rules, for a run whose states are known to keep them: on such a state all of this is promised
+-- of it.
 pub record AnsweredUntested (k : Kernel) (bytes log : List ℕ) (used : ℕ) (r : Logged) (log′ : List ℕ) : Type 0 where
   pub result : r ≡ recorded k bytes log used
   pub written : log′ ≡ logAfter k bytes log used

@@ -1,5 +1,5 @@
--- Document 01's sample runs marked *, in one table: the calls, the answers, and what then holds. Each goes through the public call, on sixteen
--- bytes and with a log, and is then undone to its start.
+-- Document 01's sample runs marked *, in one table: the calls, the answers, and what then holds. Each goes through the public call, on
+-- sixteen bytes and with a log, and is then undone to its start.
 use Prim.Native.Nat.{ℕ, zero, suc, _+_}
 use mathlib.Core.Bool.{Bool, true, false, _&&_}
 use mathlib.Core.List.{List, [], _∷_, _++_}
@@ -155,7 +155,8 @@ samples =
       answers = answer 0 0 0 ∷ answer 0 255 0 ∷ answer 0 255 0 ∷ [];
       then = λ k. eqb (k .uptime) 1;
     }
-    -- The tick after the greatest uptime makes it 0, and its undo, as of every sample, leads back to the start: the greatest again [01, samples 8].
+    -- The tick after the greatest uptime makes it 0, and its undo leads back to the start, as that of every sample: to the greatest
+    -- uptime [01, samples 8].
     ∷ record {
       start = withUptime 4294967295 fresh;
       calls = tick ∷ [];

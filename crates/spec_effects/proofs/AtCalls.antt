@@ -1,4 +1,5 @@
--- What an accepted call meets, as the laws ask it: everybody in place, a caller that can stop, free ids. From the rules, once for all kinds.
+-- What an accepted call meets, as the laws ask it: everybody in place, a caller that can stop, free ids. From the rules, once for all
+-- kinds.
 use Prim.Native.Nat.{ℕ, _<_}
 use mathlib.Core.Path.{_≡_, sym, subst}
 use mathlib.Core.Bool.{Bool, true, cond, false≢true, and-eq-true-iff}

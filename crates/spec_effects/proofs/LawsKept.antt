@@ -32,7 +32,8 @@ use Rattle.spec_laws.specs.OfEvents.{BitIs}
 use Rattle.spec_threads.proofs.LawsOfThreads.{create-creates, yield-yields, set-priority-sets, reset-priority-sets}
 use Rattle.spec_threads.proofs.LawsOfDestroying.{destroy-destroys}
 use Rattle.spec_threads.proofs.LawsOfBlocking.{sleep-blocks}
-use Rattle.spec_regions.proofs.LawsOfRegions.{push-unscheduled, pop-unscheduled, pop-all-unscheduled, push-critical, pop-critical, pop-all-critical}
+use Rattle.spec_regions.proofs.LawsOfRegions.{push-unscheduled, pop-unscheduled, pop-all-unscheduled}
+use Rattle.spec_regions.proofs.LawsOfRegions.{push-critical, pop-critical, pop-all-critical}
 use Rattle.spec_semaphores.proofs.LawsOfSemaphores.{create-makes, destroy-clears, make-replaces, remove-clears, post-posts, pend-pends}
 use Rattle.spec_events.proofs.LawsOfEvents.{set-sets, clear-clears, load-loads, pend-event-pends}
 use Rattle.spec_messages.proofs.LawsOfMessages.{pend-message-pends, post-message-posts, create-message-makes, destroy-message-clears}

@@ -156,7 +156,8 @@ module _ (events : List Event) (bits : ℕ) where
     waiters-later i j (suc n) b = rw (line-later i j b, waiters-later i (suc j) n (omega arith))
 
   -- so the events wake their waiters, one after the other
-  outs-wake : (i n : ℕ) {p : Threads} → Standing p → Bytes p → workOutFrom events bits i n p ≡ each wakeIn (waitersFrom met (queues p) i n) p
+  outs-wake : (i n : ℕ) {p : Threads} → Standing p → Bytes p
+      → workOutFrom events bits i n p ≡ each wakeIn (waitersFrom met (queues p) i n) p
   unfolding workOutFrom workOut wokenIn waitersFrom
   outs-wake i zero S B = refl
   outs-wake i (suc n) {p} S B =

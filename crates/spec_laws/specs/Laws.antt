@@ -48,7 +48,7 @@ lawsOfKinds =
     ∷ silent (λ k c. Levels (k .unscheduled) 0 k)  -- 13 pop all critical
     ∷ (λ k c value. CreatedSemaphore (c .b) (c .c) value k)  -- 14 create semaphore, count b, maximum c
     ∷ silent (λ k c. MadeSemaphore (c .a) noSemaphore k)  -- 15 destroy semaphore a
-    ∷ silent (λ k c. MadeSemaphore (c .a) (pulsing (c .c) (c .d) (semaphore k (c .a))) k)  -- 16 make semaphore a periodic, delay c, period d
+    ∷ silent (λ k c. MadeSemaphore (c .a) (pulsing (c .c) (c .d) (semaphore k (c .a))) k)  -- 16 make a periodic, delay c, period d
     ∷ silent (λ k c. MadeSemaphore (c .a) (pulsing 0 0 (semaphore k (c .a))) k)  -- 17 remove periodic a
     ∷ silent (λ k c. PendedSemaphore (c .a) (c .c) k)  -- 18 pend semaphore a, timeout c
     ∷ silent (λ k c. PostedSemaphore (c .a) k)  -- 19 post semaphore a

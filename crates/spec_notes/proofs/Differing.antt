@@ -8,8 +8,6 @@ use borrow.Table.Steps.{cases}
 use Rattle.spec_kernel.specs.declared.records.Message.{Message}
 use Rattle.spec_kernel.specs.declared.records.Kernel.{Kernel}
 use Rattle.spec_kernel.specs.Records.{thread, semaphore, message}
-use Rattle.spec_rules.specs.Rules.{Sized, Rules}
-use Rattle.proof_rules.proofs.Ends.{before}
 use Rattle.spec_notes.specs.Rows.{messageRow}
 use Rattle.spec_notes.specs.Touched.{sameThread, sameSemaphore, sameMessage}
 use Rattle.spec_notes.specs.Counts.{Differ, withoutPlace}

@@ -30,7 +30,7 @@ use Rattle.proof_rules.proofs.Core.{live-semaphore}
 use Rattle.proof_rules.proofs.Ends.{Before, before}
 use Rattle.proof_rules.proofs.Accepted.{accepted}
 use Rattle.spec_effects.proofs.RulesKept.{rules-kept}
-use Rattle.spec_notes.specs.Rows.{threadCode, fullCode, threadRow, semaphoreRow, semaphoreWidths}
+use Rattle.spec_notes.specs.Rows.{fullCode, threadRow, semaphoreRow, semaphoreWidths}
 use Rattle.spec_notes.specs.Touched.{sameThread, sameSemaphore, youngerThread, youngerSemaphore, movesInPlace}
 use Rattle.spec_notes.specs.Touched.{touchedThread, touchedSemaphore, touchedEvent, touchedMessage}
 use Rattle.spec_notes.specs.Predicted.{predictedSemaphore}

@@ -1,12 +1,12 @@
 -- A record's row gives the record back, so rows that are the same mean equal records.
-use Prim.Native.Nat.{ℕ, _+_, _-_, _<_}
+use Prim.Native.Nat.{ℕ, _-_, _<_}
 use mathlib.Core.Path.{_≡_, refl, sym, ap, _∙_}
 use mathlib.Core.Bool.{Bool, true, false, not, cond, and-eq-true-iff, false≢true}
 use mathlib.Core.List.{List, [], _∷_}
 use native.Mathlib.Nat.{mod-eq-of-lt}
 use native.Mathlib.Omega.{arith}
 use lib.Dec.{eqb, ltb}
-use lib.ListN.{getD, drop}
+use lib.ListN.{getD}
 use borrow.Author.Tests.{eqb-true}
 use borrow.Table.Steps.{cases}
 use Rattle.base_queue.specs.Tables.{one}
@@ -19,11 +19,11 @@ use Rattle.spec_kernel.specs.declared.records.Semaphore.{Semaphore}
 use Rattle.spec_kernel.specs.declared.records.Event.{Event}
 use Rattle.spec_kernel.specs.declared.records.Message.{Message}
 use Rattle.spec_kernel.specs.Records.{noThread}
-use Rattle.spec_calls.specs.declared.call.Call.{Call}
 use Rattle.spec_refusals.specs.Refusals.{is}
-use Rattle.spec_notes.specs.Rows.{conditionCode, threadCode, codeFor, fullCode, conditionData, wakeCode, threadRow, conditionFrom, wakeFrom, threadFrom}
+use Rattle.spec_notes.specs.Rows.{conditionCode, threadCode, codeFor, fullCode, conditionData, wakeCode}
+use Rattle.spec_notes.specs.Rows.{threadRow, conditionFrom, wakeFrom, threadFrom}
 use Rattle.spec_notes.specs.Rows.{semaphoreRow, semaphoreFrom, eventRow, eventFrom, messageRow, messageFrom}
-use Rattle.spec_notes.specs.Touched.{sameRow, sameThread, sameSemaphore, sameEvent, sameMessage, youngerThread}
+use Rattle.spec_notes.specs.Touched.{sameRow, sameThread, sameSemaphore, sameEvent, sameMessage}
 
 -- ---- a field
 code-live : (c : Condition) → not (eqb (conditionCode c) 0) ≡ true

@@ -189,9 +189,16 @@ module _ (k : Kernel) (c : Call) (S : Standing (threadsOf k)) (T : (t : ℕ) →
     unposted = refl;
     semaphores = turned;
     ends = refl;
-    events = record { records = hides (λ s. s .events) (λ _ _. refl) (λ _ _. refl); bits = hides (λ s. s .bits) (λ _ _. refl) (λ _ _. refl) };
+    events =
+        record {
+          records = hides (λ s. s .events) (λ _ _. refl) (λ _ _. refl);
+          bits = hides (λ s. s .bits) (λ _ _. refl) (λ _ _. refl);
+        };
     messages =
-        record { records = hides (λ s. s .messages) (λ _ _. refl) (λ _ _. refl); posted = hides (λ s. s .posted) (λ _ _. refl) (λ _ _. refl) };
+        record {
+          records = hides (λ s. s .messages) (λ _ _. refl) (λ _ _. refl);
+          posted = hides (λ s. s .posted) (λ _ _. refl) (λ _ _. refl);
+        };
     unscheduled = hides (λ s. s .unscheduled) (λ _ _. refl) (λ _ _. refl);
     critical = hides (λ s. s .critical) (λ _ _. refl) (λ _ _. refl);
     runner = hides (λ s. s .runner) (λ _ _. refl) (λ _ _. refl);

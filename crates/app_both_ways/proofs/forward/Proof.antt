@@ -9,7 +9,8 @@ use Rattle.app_both_ways.proofs.forward.Statement.{statement}
 use Rattle.app_both_ways.proofs.forward.Tie as tie
 
 abbrev Inv-loop : tie.InvT-loop
-Inv-loop s log₀ out₀ run₀ end₀ at₀ log out run end at = (at ≤ length s) × (length out ≡ 16384) × (length log ≡ length log₀) × Rules (run .kernel)
+Inv-loop s log₀ out₀ run₀ end₀ at₀ log out run end at =
+    (at ≤ length s) × (length out ≡ 16384) × (length log ≡ length log₀) × Rules (run .kernel)
 
 abbrev μ-loop : tie.MeasureT-loop
 μ-loop s log₀ out₀ run₀ end₀ at₀ log out run end at = length s - at

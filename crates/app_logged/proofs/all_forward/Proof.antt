@@ -35,7 +35,9 @@ loop-less : tie.Need-loop-less Inv-loop μ-loop
 loop-less c = search needs
 
 loop-again : tie.Need-loop-again Inv-loop μ-loop
-loop-again c = (search needs, rules-go-on (c .before .recorded .ensures) (c .before .before .before .before .before .before .before .before .loop .inv .1))
+loop-again c =
+    let r = c .before in
+    (search needs, rules-go-on (r .recorded .ensures) (r .before .before .before .before .before .before .before .loop .inv .1))
 
 up-to-requires : tie.Need-up-to-requires Inv-loop μ-loop
 up-to-requires c κs = search needs
