@@ -1,0 +1,63 @@
+-- A table's members empty a set exactly where each of the set stands there once and nobody else does; with that, the test by a set and
+-- by an array of keys is the test by the records that these tell of. Assumes nothing.
+use Prim.Native.Nat.{ℕ, _-_, _^_, _≤_, _<_}
+use mathlib.Core.Path.{_≡_, refl, sym, ap, _∙_}
+use mathlib.Core.Bool.{Bool, true, false, _&&_, false≢true}
+use mathlib.Core.List.{List, [], _∷_}
+use native.Mathlib.Omega.{arith}
+use lib.Dec.{eqb, ltb, leb}
+use lib.ListN.{length, getD, List·getD-eq-default}
+use borrow.Author.Tests.{eqb-true, eqb-false, eq-eqb, ltb-true, ltb-false, lt-ltb, ne-eqb}
+use borrow.Table.Steps.{cases}
+use Rattle.base_bits.specs.Words.{hasBit}
+use Rattle.base_bits.specs.Sets.{Tells}
+use Rattle.base_bits.proofs.Members.{has-none, none-has, taken-lacks, taken-others}
+use Rattle.base_queue.specs.Lists.{count}
+use Rattle.base_queue.specs.Tables.{one, Placed, isPlaced, isOrderedFrom}
+use Rattle.base_queue.proofs.Counts.{same, count-head, count-rest}
+use Rattle.base_queue.proofs.Lists.{and-both}
+use Rattle.base_queue.proofs.Tables.{placed-means, placed-holds}
+use Rattle.base_tables.specs.Taken.{empties, isTaken}
+
+-- two tests that pass together are one
+pub same-test : (a b : Bool) → (a ≡ true → b ≡ true) → (b ≡ true → a ≡ true) → a ≡ b
+same-test true b f g = sym (f refl)
+same-test false true f g = g refl
+same-test false false f g = refl
+
+-- who stands as often as its bit says has its bit set where it stands
+bit-of : (b : Bool) → 0 < one b → b ≡ true
+bit-of true h = refl
+bit-of false h = absurd (omega arith)
+
+bit-not : (b : Bool) → one b ≡ 0 → b ≡ false
+bit-not true h = absurd (omega arith)
+bit-not false h = refl
+
+-- ---- the set and the members
+pub empties-means : (set : ℕ) (l : List ℕ) → empties set l ≡ true → Placed (hasBit set) l
+empties-means set [] e x = rw (eqb-true set 0 e, has-none)
+empties-means set (y ∷ l) e x =
+    let (there, rest) = and-both (hasBit set y) (empties (set - 2 ^ y) l) e in
+    let r : count x l ≡ one (hasBit (set - 2 ^ y) x) = empties-means (set - 2 ^ y) l rest x in
+    cases (eqb y x)
+    (λ q. let w : y ≡ x = eqb-true y x q in
+    let g : hasBit (set - 2 ^ y) x ≡ false = rw w at (taken-lacks set y there) in
+    let t : hasBit set x ≡ true = rw w at there in
+    rw (q, t) (ap (λ (n : ℕ). suc n) (r ∙ ap one g)))
+    (λ q. rw q (r ∙ ap one (taken-others set y there x (eqb-false y x q))))
+
+pub empties-holds : (set : ℕ) (l : List ℕ) → Placed (hasBit set) l → empties set l ≡ true
+empties-holds set [] P = eq-eqb set 0 (none-has set (λ x. bit-not (hasBit set x) (sym (P x))))
+empties-holds set (y ∷ l) P =
+    let there : hasBit set y ≡ true = bit-of (hasBit set y) (rw (P y) at (count-head y l)) in
+    let rest : Placed (hasBit (set - 2 ^ y)) l =
+    λ x. cases (eqb y x)
+    (λ q. let w : y ≡ x = eqb-true y x q in
+    let g : hasBit (set - 2 ^ y) x ≡ false = rw w at (taken-lacks set y there) in
+    let t : hasBit set x ≡ true = rw w at there in
+    let p : suc (count x l) ≡ 1 = rw (q, t) at (P x) in
+    rw g (omega arith))
+    (λ q. let p : count x l ≡ one (hasBit set x) = rw q at (P x) in
+    p ∙ ap one (sym (taken-others set y there x (eqb-false y x q)))) in
+    rw there (empties-holds (set - 2 ^ y) l rest)
