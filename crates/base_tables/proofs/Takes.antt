@@ -1,13 +1,13 @@
 -- A table's members empty a set exactly where each of the set stands there once and nobody else does; with that, the test by a set and
 -- by an array of keys is the test by the records that these tell of. Assumes nothing.
-use Prim.Native.Nat.{ℕ, _-_, _^_, _≤_, _<_}
+use Prim.Native.Nat.{ℕ, suc, _+_, _-_, _^_, _≤_, _<_}
 use mathlib.Core.Path.{_≡_, refl, sym, ap, _∙_}
-use mathlib.Core.Bool.{Bool, true, false, _&&_, false≢true}
+use mathlib.Core.Bool.{Bool, true, false, _&&_, and-false}
 use mathlib.Core.List.{List, [], _∷_}
 use native.Mathlib.Omega.{arith}
 use lib.Dec.{eqb, ltb, leb}
 use lib.ListN.{length, getD, List·getD-eq-default}
-use borrow.Author.Tests.{eqb-true, eqb-false, eq-eqb, ltb-true, ltb-false, lt-ltb, ne-eqb}
+use borrow.Author.Tests.{eqb-true, eqb-false, eq-eqb, ltb-true, ltb-false, le-leb, lt-leb}
 use borrow.Table.Steps.{cases}
 use Rattle.base_bits.specs.Words.{hasBit}
 use Rattle.base_bits.specs.Sets.{Tells}
@@ -42,7 +42,7 @@ empties-means set (y ∷ l) e x =
     let r : count x l ≡ one (hasBit (set - 2 ^ y) x) = empties-means (set - 2 ^ y) l rest x in
     cases (eqb y x)
     (λ q. let w : y ≡ x = eqb-true y x q in
-    let g : hasBit (set - 2 ^ y) x ≡ false = rw w at (taken-lacks set y there) in
+    let g : hasBit (set - 2 ^ y) x ≡ false = rw (← w) (taken-lacks set y there) in
     let t : hasBit set x ≡ true = rw w at there in
     rw (q, t) (ap (λ (n : ℕ). suc n) (r ∙ ap one g)))
     (λ q. rw q (r ∙ ap one (taken-others set y there x (eqb-false y x q))))
@@ -54,10 +54,44 @@ empties-holds set (y ∷ l) P =
     let rest : Placed (hasBit (set - 2 ^ y)) l =
     λ x. cases (eqb y x)
     (λ q. let w : y ≡ x = eqb-true y x q in
-    let g : hasBit (set - 2 ^ y) x ≡ false = rw w at (taken-lacks set y there) in
+    let g : hasBit (set - 2 ^ y) x ≡ false = rw (← w) (taken-lacks set y there) in
     let t : hasBit set x ≡ true = rw w at there in
     let p : suc (count x l) ≡ 1 = rw (q, t) at (P x) in
     rw g (omega arith))
     (λ q. let p : count x l ≡ one (hasBit set x) = rw q at (P x) in
     p ∙ ap one (sym (taken-others set y there x (eqb-false y x q)))) in
     rw there (empties-holds (set - 2 ^ y) l rest)
+
+-- ---- keys that agree on the members
+pub same-order : {key key′ : ℕ → ℕ} (low : ℕ) (l : List ℕ) → ((x : ℕ) → 0 < count x l → key x ≡ key′ x)
+    → isOrderedFrom low key l ≡ isOrderedFrom low key′ l
+same-order low [] h = refl
+same-order {key} {key′} low (y ∷ l) h =
+    let r = same-order {key = key} {key′ = key′} (key′ y) l (λ x c. h x (count-rest x y l c)) in
+    rw (h y (count-head y l)) (ap (λ (b : Bool). leb low (key′ y) && b) r)
+
+-- ---- the records that a set and an array of keys tell of; d is what stands past their end, and doesn't belong
+module _ {A : Type 0} (belongs : A → Bool) (key : A → ℕ) (records : List A) (d : A) (out : belongs d ≡ false) (n : ℕ) (full : length records ≡ n)
+    (set : ℕ) (keys : List ℕ) (told : Tells set n (λ x. belongs (getD records x d)))
+    (keyed : (x : ℕ) → x < n → getD keys x 0 ≡ key (getD records x d)) (l : List ℕ) where
+  member : (x : ℕ) → hasBit set x ≡ belongs (getD records x d)
+  member x =
+      cases (ltb x n) (λ e. told .of x ∙ rw e)
+      (λ e. let past : length records ≤ x = omega (arith, ltb-false x n e) in
+      told .of x ∙ rw (e, List·getD-eq-default records d past) (sym out))
+
+  pub taken-placed : empties set l ≡ isPlaced belongs records l
+  taken-placed =
+      same-test _ _ (λ e. placed-holds belongs records d out l (λ x. empties-means set l e x ∙ ap one (member x)))
+      (λ e. empties-holds set l (λ x. placed-means belongs records d out l e x ∙ ap one (sym (member x))))
+
+  in-order : isPlaced belongs records l ≡ true
+      → isOrderedFrom 0 (λ x. getD keys x 0) l ≡ isOrderedFrom 0 (λ x. key (getD records x d)) l
+  in-order e = same-order 0 l (λ x c. keyed x (within x _ (told .of x) (bit-of (hasBit set x) (rw (empties-means set l (taken-placed ∙ e) x) at c))))
+    where
+      within : (x : ℕ) (b : Bool) → hasBit set x ≡ (ltb x n && b) → hasBit set x ≡ true → x < n
+      within x b f t = ltb-true x n (and-both (ltb x n) b (sym f ∙ t) .0)
+
+  -- The test by the set and the keys is the test by the records.
+  pub taken-means : isTaken set 0 keys l ≡ (isPlaced belongs records l && isOrderedFrom 0 (λ x. key (getD records x d)) l)
+  taken-means = rw taken-placed (cases (isPlaced belongs records l) (λ e. rw e (in-order e)) (λ e. rw e))
