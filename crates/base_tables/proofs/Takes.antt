@@ -6,18 +6,21 @@ use mathlib.Core.Bool.{Bool, true, false, _&&_, and-false}
 use mathlib.Core.List.{List, [], _∷_}
 use native.Mathlib.Omega.{arith}
 use lib.Dec.{eqb, ltb, leb}
-use lib.ListN.{length, getD, List·getD-eq-default}
+use lib.ListN.{length, getD, set, length-set, List·getD-eq-default}
+use lib.Seq.{getD-set-same, getD-set-other}
+use borrow.Author.Count.{below-more}
 use borrow.Author.Tests.{eqb-true, eqb-false, eq-eqb, ltb-true, ltb-false, le-leb, lt-leb}
 use borrow.Table.Steps.{cases}
 use Rattle.base_bits.specs.Words.{hasBit}
 use Rattle.base_bits.specs.Sets.{Tells}
 use Rattle.base_bits.proofs.Members.{has-none, none-has, taken-lacks, taken-others}
 use Rattle.base_queue.specs.Lists.{count}
+use Rattle.base_queue.specs.Queues.{capacity}
 use Rattle.base_queue.specs.Tables.{one, Placed, isPlaced, isOrderedFrom}
 use Rattle.base_queue.proofs.Counts.{same, count-head, count-rest}
 use Rattle.base_queue.proofs.Lists.{and-both}
 use Rattle.base_queue.proofs.Tables.{placed-means, placed-holds}
-use Rattle.base_tables.specs.Taken.{empties, isTaken}
+use Rattle.base_tables.specs.Taken.{empties, isTaken, Keys}
 
 -- two tests that pass together are one
 pub same-test : (a b : Bool) → (a ≡ true → b ≡ true) → (b ≡ true → a ≡ true) → a ≡ b
@@ -70,10 +73,23 @@ same-order {key} {key′} low (y ∷ l) h =
     let r = same-order {key = key} {key′ = key′} (key′ y) l (λ x c. h x (count-rest x y l c)) in
     rw (h y (count-head y l)) (ap (λ (b : Bool). leb low (key′ y) && b) r)
 
+-- ---- keys that a loop fills in
+pub keys-none : (key : ℕ → ℕ) (keys : List ℕ) → length keys ≡ capacity → Keys keys 0 key
+keys-none key keys e = record { full = e; of = λ x h. absurd (omega arith) }
+
+-- v is the next key
+pub keys-next : {keys : List ℕ} {n v : ℕ} {key : ℕ → ℕ} → Keys keys n key → n < capacity → v ≡ key n → Keys (set keys n v) (n + 1) key
+keys-next {keys} {n} {v} {key} k h e =
+    record {
+      full = length-set keys n v ∙ k .full;
+      of = below-more (λ x. getD (set keys n v) x 0 ≡ key x) n (λ x b. getD-set-other keys n x v 0 (λ q. omega arith) ∙ k .of x b)
+          (getD-set-same keys n v 0 (omega (arith, k .full)) ∙ e);
+    }
+
 -- ---- the records that a set and an array of keys tell of; d is what stands past their end, and doesn't belong
 module _ {A : Type 0} (belongs : A → Bool) (key : A → ℕ) (records : List A) (d : A) (out : belongs d ≡ false) (n : ℕ) (full : length records ≡ n)
-    (set : ℕ) (keys : List ℕ) (told : Tells set n (λ x. belongs (getD records x d)))
-    (keyed : (x : ℕ) → x < n → getD keys x 0 ≡ key (getD records x d)) (l : List ℕ) where
+    (set : ℕ) (keys : List ℕ) (told : Tells set n (λ x. belongs (getD records x d))) (keyed : Keys keys n (λ x. key (getD records x d)))
+    (l : List ℕ) where
   member : (x : ℕ) → hasBit set x ≡ belongs (getD records x d)
   member x =
       cases (ltb x n) (λ e. told .of x ∙ rw e)
@@ -87,7 +103,7 @@ module _ {A : Type 0} (belongs : A → Bool) (key : A → ℕ) (records : List A
 
   in-order : isPlaced belongs records l ≡ true
       → isOrderedFrom 0 (λ x. getD keys x 0) l ≡ isOrderedFrom 0 (λ x. key (getD records x d)) l
-  in-order e = same-order 0 l (λ x c. keyed x (within x _ (told .of x) (bit-of (hasBit set x) (rw (empties-means set l (taken-placed ∙ e) x) at c))))
+  in-order e = same-order 0 l (λ x c. keyed .of x (within x _ (told .of x) (bit-of (hasBit set x) (rw (empties-means set l (taken-placed ∙ e) x) at c))))
     where
       within : (x : ℕ) (b : Bool) → hasBit set x ≡ (ltb x n && b) → hasBit set x ≡ true → x < n
       within x b f t = ltb-true x n (and-both (ltb x n) b (sym f ∙ t) .0)
