@@ -87,14 +87,18 @@ keys-next {keys} {n} {v} {key} k h e =
     }
 
 -- ---- the records that a set and an array of keys tell of; d is what stands past their end, and doesn't belong
+pub told-members : {A : Type 0} (belongs : A → Bool) (records : List A) (d : A) → belongs d ≡ false → (n : ℕ) → length records ≡ n
+    → (set : ℕ) → Tells set n (λ x. belongs (getD records x d)) → (x : ℕ) → hasBit set x ≡ belongs (getD records x d)
+told-members belongs records d out n full set told x =
+    cases (ltb x n) (λ e. told .of x ∙ rw e)
+    (λ e. let past : length records ≤ x = omega (arith, ltb-false x n e) in
+    told .of x ∙ rw (e, List·getD-eq-default records d past) (sym out))
+
 module _ {A : Type 0} (belongs : A → Bool) (key : A → ℕ) (records : List A) (d : A) (out : belongs d ≡ false) (n : ℕ) (full : length records ≡ n)
     (set : ℕ) (keys : List ℕ) (told : Tells set n (λ x. belongs (getD records x d))) (keyed : Keys keys n (λ x. key (getD records x d)))
     (l : List ℕ) where
   member : (x : ℕ) → hasBit set x ≡ belongs (getD records x d)
-  member x =
-      cases (ltb x n) (λ e. told .of x ∙ rw e)
-      (λ e. let past : length records ≤ x = omega (arith, ltb-false x n e) in
-      told .of x ∙ rw (e, List·getD-eq-default records d past) (sym out))
+  member = told-members belongs records d out n full set told
 
   pub taken-placed : empties set l ≡ isPlaced belongs records l
   taken-placed =

@@ -5,7 +5,7 @@ use mathlib.Core.Path.{_≡_}
 use mathlib.Core.Bool.{Bool, not, cond}
 use mathlib.Core.List.{List}
 use lib.Dec.{eqb}
-use lib.ListN.{getD}
+use lib.ListN.{length, getD}
 use Rattle.base_bits.specs.Words.{hasBit}
 use Rattle.base_bits.specs.Sets.{Tells}
 use Rattle.base_queue.specs.Lists.{everyFrom}
@@ -26,6 +26,7 @@ use Rattle.code_rules.specs.declared.told.Threads.{Threads}
 use Rattle.code_rules.specs.declared.told.Messages.{Messages}
 
 pub record OfSemaphores (semaphores : List Semaphore) (r : Semaphores) : Type 0 where
+  pub full : length semaphores ≡ semaphoreCount
   pub kept : r .kept ≡ everyFrom (λ _ s. semaphoreKept s) 0 semaphores
   pub waited : Tells (r .waited) semaphoreCount (semaphoreWaited semaphores)
 
@@ -33,6 +34,7 @@ abbrev pub OfEvents : List Event → ℕ → ℕ → Type 0
 OfEvents events bits untrue = Tells untrue eventCount (λ i. not (isTrue bits (getD events i noEvent)))
 
 pub record OfThreads (threads : List Thread) (waited untrue : ℕ) (r : Threads) : Type 0 where
+  pub full : length threads ≡ threadCount
   pub kept : ByObjects waited untrue (r .kept) (λ semaphores events bits. everyFrom (λ _ t. threadKept semaphores events bits t) 0 threads)
   pub homes : Tells (r .homes) threadCount (λ t. hasHome (getD threads t noThread))
   pub ticking : Tells (r .ticking) threadCount (λ t. isTicking (getD threads t noThread))
@@ -41,6 +43,7 @@ pub record OfThreads (threads : List Thread) (waited untrue : ℕ) (r : Threads)
   pub ticks : Keys (r .ticks) threadCount (λ t. getD threads t noThread .ticks)
 
 pub record OfMessages (messages : List Message) (threads : List Thread) (r : Messages) : Type 0 where
+  pub full : length messages ≡ messageCount
   pub kept : r .kept ≡ everyFrom (λ _ m. messageKept threads m) 0 messages
   pub queued : Tells (r .queued) messageCount (λ m. isQueued (getD messages m noMessage))
   pub streams : Keys (r .streams) messageCount (λ m. streamOf (getD messages m noMessage))

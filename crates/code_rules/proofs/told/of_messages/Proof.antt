@@ -104,7 +104,7 @@ returns : tie.Need-returns Inv-loop μ-loop
 returns c =
     let l = c .before .loop in
     let e : l .m ≡ messageCount = omega arith in
-    record { kept = sweep-ends (l .inv .3) (omega arith); queued = rw e at (l .inv .4); streams = rw e at (l .inv .5) }
+    record { full = l .inv .1; kept = sweep-ends (l .inv .3) (omega arith); queued = rw e at (l .inv .4); streams = rw e at (l .inv .5) }
 
 pub of-messages-spec : {M : Type 1} → statement M
 of-messages-spec =

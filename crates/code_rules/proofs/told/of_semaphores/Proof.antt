@@ -71,7 +71,7 @@ returns : tie.Need-returns Inv-loop μ-loop
 returns c =
     let l = c .before .loop in
     let e : l .i ≡ semaphoreCount = omega arith in
-    record { kept = sweep-ends (l .inv .2) (omega arith); waited = rw e at (l .inv .3) }
+    record { full = l .inv .0; kept = sweep-ends (l .inv .2) (omega arith); waited = rw e at (l .inv .3) }
 
 pub of-semaphores-spec : {M : Type 1} → statement M
 of-semaphores-spec =

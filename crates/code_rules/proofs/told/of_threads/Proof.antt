@@ -126,6 +126,7 @@ returns c =
     let l = c .before .loop in
     let e : l .t ≡ threadCount = omega arith in
     record {
+      full = l .inv .0;
       kept = λ semaphores events bits o. sweep-ends (l .inv .2 semaphores events bits o) (omega arith);
       homes = rw e at (l .inv .3);
       ticking = rw e at (l .inv .4);
