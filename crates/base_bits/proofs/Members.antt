@@ -8,10 +8,10 @@ use native.Mathlib.Nat.{sub-add-cancel, pow-suc, mul-mod-left, le-div-iff-mul-le
 use native.Mathlib.Numerals.{add-one, one-add}
 use native.Mathlib.Omega.{arith}
 use lib.Arith.{lt-of-le-ne}
-use lib.Bits.{bitAnd, bitOr, and-high, or-disjoint}
+use lib.Bits.{bitAnd, bitOr, and-high, and-le-l, and-le-r, or-add-and, or-disjoint, or-zero-l}
 use lib.Dec.{eqb, ltb, lit<}
 use lib.Pow.{pow-pos, pow-mono, pow-lt, pow-add, high-ones, shl-shr, mod-pow-add}
-use borrow.Author.Tests.{lt-ltb, le-ltb, ltb-true, ltb-false, eqb-true, eqb-false, ne-eqb}
+use borrow.Author.Tests.{lt-ltb, le-ltb, ltb-true, ltb-false, eqb-true, eqb-false, eq-eqb, ne-eqb}
 use Rattle.base_bits.specs.Words.{hasBit}
 use Rattle.base_bits.specs.Sets.{joined, Tells}
 use Rattle.base_bits.proofs.Digits.{either, digit, has-low, has-digit, has-or}
@@ -85,6 +85,18 @@ none-has word h = sym (mod-eq-of-lt (below-power word)) ∙ low word
     low : (k : ℕ) → word % 2 ^ k ≡ 0
     low zero = mod-one word
     low (suc k) = rw (← one-add k, mod-pow-add word 1 k, has-digit word k, h k, zero-mul, zero-add) (low k)
+
+-- Two numbers are 0 together where each is.
+pub or-none : (a b : ℕ) → eqb (bitOr a b) 0 ≡ (eqb a 0 && eqb b 0)
+or-none a b =
+    either (eqb (bitOr a b) 0)
+    (λ e. let z : bitOr a b ≡ 0 = eqb-true _ _ e in
+    let f : (a ≡ 0) × (b ≡ 0) = omega (arith, or-add-and a b, and-le-l a b, and-le-r a b) in
+    rw (e, eq-eqb a 0 (f .0), eq-eqb b 0 (f .1)))
+    (λ e. let n = eqb-false (bitOr a b) 0 e in
+    either (eqb a 0)
+    (λ f. rw (e, f) (sym (ne-eqb b 0 (λ g. n (rw (eqb-true a 0 f, or-zero-l) g)))))
+    (λ f. rw (e, f)))
 
 -- ---- who joins, and who was told
 

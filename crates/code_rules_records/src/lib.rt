@@ -51,37 +51,13 @@ fn is_no_thread(r: Thread) -> bool
 fn is_no_semaphore(r: Semaphore) -> bool
     ensures { λ b. ⌜ b ≡ isNoSemaphore r ⌝ }
 {
-    if r.count != 0 {
-        return false;
-    }
-    if r.maximum != 0 {
-        return false;
-    }
-    if r.ticks != 0 {
-        return false;
-    }
-    r.period == 0
+    (r.count as u32) | (r.maximum as u32) | r.ticks | r.period == 0
 }
 
 fn is_no_message(r: Message) -> bool
     ensures { λ b. ⌜ b ≡ isNoMessage r ⌝ }
 {
-    if r.owner != 0 {
-        return false;
-    }
-    if r.sender != 0 {
-        return false;
-    }
-    if r.kind != 0 {
-        return false;
-    }
-    if r.size != 0 {
-        return false;
-    }
-    if r.address != 0 {
-        return false;
-    }
-    r.channel == 0
+    (r.owner as u32) | (r.sender as u32) | (r.kind as u32) | r.size | r.address | (r.channel as u32) == 0
 }
 
 // Whether a semaphore may have waiters: it is live and its count is 0.

@@ -1,16 +1,15 @@
 -- `base_queue::is_tidy` meets its contract: from the length on, the places before i together say whether they are 0, and the rest decides.
 use Prim.Native.Nat.{ℕ, _-_, _≤_}
-use mathlib.Core.Path.{_≡_, sym, _∙_}
-use mathlib.Core.Bool.{Bool, true, false, _&&_, and-true, and-assoc}
+use mathlib.Core.Path.{_≡_, _∙_}
+use mathlib.Core.Bool.{Bool, _&&_, and-true, and-assoc}
 use native.Mathlib.Numerals.{add-one}
 use native.Mathlib.Omega.{arith}
-use lib.Bits.{bitOr, or-add-and, and-le-l, and-le-r, or-zero-l}
 use lib.Dec.{eqb}
 use lib.ListN.{length, take, drop}
 use lib.Seq.{take-all}
 use borrow.Author.Needs.{needs}
-use borrow.Author.Tests.{eqb-true, eqb-false, eq-eqb, ne-eqb, le-leb, lt-leb}
-use borrow.Table.Steps.{cases}
+use borrow.Author.Tests.{le-leb, lt-leb}
+use Rattle.base_bits.proofs.Members.{or-none}
 use Rattle.base_queue.specs.declared.Queue.{Queue}
 use Rattle.base_queue.specs.Lists.{everyFrom, allZero}
 use Rattle.base_queue.specs.Queues.{capacity, isTidy}
@@ -20,18 +19,6 @@ use Rattle.base_queue.proofs.is_tidy.Tie as tie
 
 abbrev test : ℕ → ℕ → Bool
 test _ x = eqb x 0
-
--- two are 0 together where each is
-or-none : (a b : ℕ) → eqb (bitOr a b) 0 ≡ (eqb a 0 && eqb b 0)
-or-none a b =
-    cases (eqb (bitOr a b) 0)
-    (λ e. let z : bitOr a b ≡ 0 = eqb-true _ _ e in
-    let f : (a ≡ 0) × (b ≡ 0) = omega (arith, or-add-and a b, and-le-l a b, and-le-r a b) in
-    rw (e, eq-eqb a 0 (f .0), eq-eqb b 0 (f .1)))
-    (λ e. let n = eqb-false (bitOr a b) 0 e in
-    cases (eqb a 0)
-    (λ f. rw (e, f) (sym (ne-eqb b 0 (λ g. n (rw (eqb-true a 0 f, or-zero-l) g)))))
-    (λ f. rw (e, f)))
 
 abbrev Inv-loop : tie.InvT-loop
 Inv-loop at all₀ i₀ all i =
