@@ -109,7 +109,8 @@ bit-xor a b i = bit-op bitXor differ (λ p q. not (sameBit p q)) xor-shr xor-ste
 
 -- ---- two words are equal if each of their bits is the same
 
-same-truth : (p q : Bool) → (p ≡ true → q ≡ true) → (q ≡ true → p ≡ true) → p ≡ q
+-- two tests that pass together are one
+pub same-truth : (p q : Bool) → (p ≡ true → q ≡ true) → (q ≡ true → p ≡ true) → p ≡ q
 same-truth true q f g = sym (f refl)
 same-truth false true f g = g refl
 same-truth false false f g = refl

@@ -1,16 +1,15 @@
 -- Laws of a bit that is set or cleared, and of the mask 0, for the proofs here and in the crates above.
 -- Assumes nothing.
-use mathlib.Core.Path.{_≡_, refl, sym, ap, _∙_}
+use mathlib.Core.Path.{_≡_, refl, sym, _∙_}
 use mathlib.Core.Bool.{true, false, or-true, or-false, and-false, and-eq-true-iff}
-use Prim.Native.Nat.{ℕ, suc, _+_, _-_, _*_, _/_, _%_, _^_, _≤_, _<_}
-use native.Mathlib.Nat.{one-mul, div-eq-of-lt, div-self, add-div-right}
-use native.Mathlib.Nat.{add-sub-cancel, sub-add-cancel, pow-suc, mul-mod-left, le-div-iff-mul-le}
+use Prim.Native.Nat.{ℕ, _+_, _-_, _*_, _%_, _^_, _≤_, _<_}
+use native.Mathlib.Nat.{one-mul}
+use native.Mathlib.Nat.{add-sub-cancel, sub-add-cancel}
 use native.Mathlib.Omega.{arith}
-use lib.Arith.{lt-of-le-ne}
-use lib.Bits.{bitAnd, bitOr, and-high, or-add-and, or-lt}
-use lib.Dec.{ltb, eqb, lit<}
-use lib.Pow.{pow-pos, pow-lt, pow-add, high-ones, shl-shr, shl-exact}
-use borrow.Author.Tests.{lt-ltb, le-ltb, ltb-true, ltb-false}
+use lib.Bits.{bitAnd, bitOr, or-add-and, or-lt}
+use lib.Dec.{ltb, lit<}
+use lib.Pow.{pow-lt, shl-exact}
+use borrow.Author.Tests.{lt-ltb, le-ltb, ltb-true}
 use Rattle.base_bits.specs.Words.{hasBit, bitAt, withBit, withoutBit, everyBelow, someBelow, allMatch, anyMatch}
 use Rattle.base_bits.proofs.Digits.{either, below, digit, bit-has, bit-or}
 use Rattle.base_bits.proofs.Members.{single-has, single-lacks, and-single, has-large, taken-lacks}

@@ -1,11 +1,11 @@
 -- Laws of the bits of any number, and of a word as the set of those whose bit is set: who joins, who is taken out, who was told.
 -- Assumes nothing.
-use mathlib.Core.Path.{_≡_, refl, sym, ap, _∙_}
-use mathlib.Core.Bool.{Bool, true, false, cond, _&&_, or-true, or-false, and-false, false≢true}
+use mathlib.Core.Path.{_≡_, sym, ap, _∙_}
+use mathlib.Core.Bool.{Bool, true, false, _&&_, or-true, or-false}
 use Prim.Native.Nat.{ℕ, zero, suc, _+_, _-_, _*_, _/_, _%_, _^_, _≤_, _<_}
 use native.Mathlib.Nat.{one-mul, zero-mul, zero-add, zero-div, div-eq-of-lt, div-self, add-div-right, mod-one, mod-eq-of-lt}
 use native.Mathlib.Nat.{sub-add-cancel, pow-suc, mul-mod-left, le-div-iff-mul-le}
-use native.Mathlib.Numerals.{add-one, one-add}
+use native.Mathlib.Numerals.{one-add}
 use native.Mathlib.Omega.{arith}
 use lib.Arith.{lt-of-le-ne}
 use lib.Bits.{bitAnd, bitOr, and-high, and-le-l, and-le-r, or-add-and, or-disjoint, or-zero-l}

@@ -2,31 +2,26 @@
 -- by an array of keys is the test by the records that these tell of. Assumes nothing.
 use Prim.Native.Nat.{ℕ, suc, _+_, _-_, _^_, _≤_, _<_}
 use mathlib.Core.Path.{_≡_, refl, sym, ap, _∙_}
-use mathlib.Core.Bool.{Bool, true, false, _&&_, and-false}
+use mathlib.Core.Bool.{Bool, true, false, _&&_}
 use mathlib.Core.List.{List, [], _∷_}
 use native.Mathlib.Omega.{arith}
 use lib.Dec.{eqb, ltb, leb}
 use lib.ListN.{length, getD, set, length-set, List·getD-eq-default}
 use lib.Seq.{getD-set-same, getD-set-other}
 use borrow.Author.Count.{below-more}
-use borrow.Author.Tests.{eqb-true, eqb-false, eq-eqb, ltb-true, ltb-false, le-leb, lt-leb}
+use borrow.Author.Tests.{eqb-true, eqb-false, eq-eqb, ltb-true, ltb-false}
 use borrow.Table.Steps.{cases}
 use Rattle.base_bits.specs.Words.{hasBit}
 use Rattle.base_bits.specs.Sets.{Tells}
+use Rattle.base_bits.proofs.Digits.{same-truth}
 use Rattle.base_bits.proofs.Members.{has-none, none-has, taken-lacks, taken-others}
 use Rattle.base_queue.specs.Lists.{count}
 use Rattle.base_queue.specs.Queues.{capacity}
 use Rattle.base_queue.specs.Tables.{one, Placed, isPlaced, isOrderedFrom}
-use Rattle.base_queue.proofs.Counts.{same, count-head, count-rest}
+use Rattle.base_queue.proofs.Counts.{count-head, count-rest}
 use Rattle.base_queue.proofs.Lists.{and-both}
 use Rattle.base_queue.proofs.Tables.{placed-means, placed-holds}
 use Rattle.base_tables.specs.Taken.{empties, isTaken, Keys}
-
--- two tests that pass together are one
-pub same-test : (a b : Bool) → (a ≡ true → b ≡ true) → (b ≡ true → a ≡ true) → a ≡ b
-same-test true b f g = sym (f refl)
-same-test false true f g = g refl
-same-test false false f g = refl
 
 -- who stands as often as its bit says has its bit set where it stands
 bit-of : (b : Bool) → 0 < one b → b ≡ true
@@ -94,21 +89,24 @@ told-members belongs records d out n full set told x =
     (λ e. let past : length records ≤ x = omega (arith, ltb-false x n e) in
     told .of x ∙ rw (e, List·getD-eq-default records d past) (sym out))
 
-module _ {A : Type 0} (belongs : A → Bool) (key : A → ℕ) (records : List A) (d : A) (out : belongs d ≡ false) (n : ℕ) (full : length records ≡ n)
-    (set : ℕ) (keys : List ℕ) (told : Tells set n (λ x. belongs (getD records x d))) (keyed : Keys keys n (λ x. key (getD records x d)))
-    (l : List ℕ) where
+module _ {A : Type 0} (belongs : A → Bool) (key : A → ℕ) (records : List A) (d : A) (out : belongs d ≡ false) (n : ℕ)
+    (full : length records ≡ n) (set : ℕ) (keys : List ℕ) (told : Tells set n (λ x. belongs (getD records x d)))
+    (keyed : Keys keys n (λ x. key (getD records x d))) (l : List ℕ) where
   member : (x : ℕ) → hasBit set x ≡ belongs (getD records x d)
   member = told-members belongs records d out n full set told
 
   pub taken-placed : empties set l ≡ isPlaced belongs records l
   taken-placed =
-      same-test _ _ (λ e. placed-holds belongs records d out l (λ x. empties-means set l e x ∙ ap one (member x)))
+      same-truth _ _ (λ e. placed-holds belongs records d out l (λ x. empties-means set l e x ∙ ap one (member x)))
       (λ e. empties-holds set l (λ x. placed-means belongs records d out l e x ∙ ap one (sym (member x))))
 
   in-order : isPlaced belongs records l ≡ true
       → isOrderedFrom 0 (λ x. getD keys x 0) l ≡ isOrderedFrom 0 (λ x. key (getD records x d)) l
-  in-order e = same-order 0 l (λ x c. keyed .of x (within x _ (told .of x) (bit-of (hasBit set x) (rw (empties-means set l (taken-placed ∙ e) x) at c))))
+  in-order e = same-order 0 l (λ x c. keyed .of x (within x _ (told .of x) (there x c)))
     where
+      there : (x : ℕ) → 0 < count x l → hasBit set x ≡ true
+      there x c = bit-of (hasBit set x) (rw (empties-means set l (taken-placed ∙ e) x) at c)
+
       within : (x : ℕ) (b : Bool) → hasBit set x ≡ (ltb x n && b) → hasBit set x ≡ true → x < n
       within x b f t = ltb-true x n (and-both (ltb x n) b (sym f ∙ t) .0)
 

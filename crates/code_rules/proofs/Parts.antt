@@ -1,12 +1,12 @@
 -- The parts of the test, from what the passes over the records tell.
 use Prim.Native.Nat.{ℕ, zero, suc, _+_, _*_, _≤_}
-use mathlib.Core.Path.{_≡_, refl, sym, ap, _∙_}
-use mathlib.Core.Bool.{Bool, true, false, cond, _&&_, and-true}
+use mathlib.Core.Path.{_≡_, refl, sym}
+use mathlib.Core.Bool.{Bool, true, false, _&&_, and-true}
 use mathlib.Core.List.{List, [], _∷_}
 use native.Mathlib.Omega.{arith}
 use lib.Dec.{eqb, ltb}
 use lib.ListN.{length, getD}
-use borrow.Author.Tests.{ltb-false, lt-ltb, le-ltb}
+use borrow.Author.Tests.{lt-ltb, le-ltb}
 use borrow.Table.Steps.{cases}
 use Rattle.base_bits.specs.Words.{hasBit}
 use Rattle.base_bits.specs.Sets.{Tells}
@@ -20,14 +20,13 @@ use Rattle.spec_kernel.specs.declared.records.Condition.{Condition}
 use Rattle.spec_kernel.specs.declared.records.Condition.the-variants.{Ready, Asleep, ForSemaphore, ForEvent, ForMessage}
 use Rattle.spec_kernel.specs.declared.records.Thread.{Thread}
 use Rattle.spec_kernel.specs.declared.records.Semaphore.{Semaphore}
-use Rattle.spec_kernel.specs.declared.records.Message.{Message}
 use Rattle.spec_kernel.specs.declared.records.Kernel.{Kernel}
 use Rattle.spec_kernel.specs.Records.{thread, noThread, noSemaphore, noMessage}
-use Rattle.spec_kernel.specs.Sizes.{threadCount, semaphoreCount, messageCount, priorityCount}
+use Rattle.spec_kernel.specs.Sizes.{threadCount, semaphoreCount, priorityCount}
 use Rattle.spec_kernel.specs.Conditions.{readyFor, isReady, ofSemaphores}
 use Rattle.spec_kernel.specs.Places.{home, homeFor, homeOf, hasHome, rankOf, isQueued, streamOf}
 use Rattle.spec_kernel.specs.Runner.{chosen}
-use Rattle.spec_rules.specs.Tests.{allOf, semaphoreWaited, isTicking, placesKept, timeKept, postedKept, inRank, inTime, inStream}
+use Rattle.spec_rules.specs.Tests.{allOf, isTicking, placesKept, timeKept, postedKept, inRank, inTime, inStream}
 use Rattle.spec_rules.specs.Tests.{threadsKept, semaphoresKept, messagesKept, runnerKept}
 use Rattle.spec_rules.proofs.OfRecords.{threads-exactly}
 use Rattle.code_rules_records.specs.Others.{Objects}
@@ -73,7 +72,8 @@ module _ (k : Kernel) where
   objects S E =
       record {
         semaphore =
-            told-members (λ (r : Semaphore). r .live && eqb (r .count) 0) (k .semaphores) noSemaphore refl semaphoreCount (S .full) _ (S .waited);
+            told-members (λ (r : Semaphore). r .live && eqb (r .count) 0) (k .semaphores) noSemaphore refl semaphoreCount (S .full) _
+            (S .waited);
         event = E .of;
       }
 

@@ -57,5 +57,11 @@ pub fn keeps_rules(k: Kernel) -> bool
     if !base_tables::is_table(posted, m.queued, streams) {
         return false;
     }
-    runner_kept(k.unscheduled, k.critical, k.runner, base_queue::first(places), t.ready)
+    runner_kept(
+        k.unscheduled,
+        k.critical,
+        k.runner,
+        base_queue::first(places),
+        t.ready,
+    )
 }

@@ -57,7 +57,8 @@ fn is_no_semaphore(r: Semaphore) -> bool
 fn is_no_message(r: Message) -> bool
     ensures { λ b. ⌜ b ≡ isNoMessage r ⌝ }
 {
-    (r.owner as u32) | (r.sender as u32) | (r.kind as u32) | r.size | r.address | (r.channel as u32) == 0
+    (r.owner as u32) | (r.sender as u32) | (r.kind as u32) | r.size | r.address | (r.channel as u32)
+        == 0
 }
 
 // Whether a semaphore may have waiters: it is live and its count is 0.

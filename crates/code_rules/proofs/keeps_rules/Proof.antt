@@ -135,7 +135,8 @@ returns-7 c =
     let semaphores = threads .before .before .before .before in
     let t = threads .before .before in
     let k = kernel (semaphores-at t) in
-    let ran = ap (λ (x : ℕ). runnerBy (k .unscheduled) (k .critical) (k .runner) x (t .of-threads .result .ready)) (c .before .first .ensures) in
+    let ready = t .of-threads .result .ready in
+    let ran = ap (λ (x : ℕ). runnerBy (k .unscheduled) (k .critical) (k .runner) x ready) (c .before .first .ensures) in
     let kept = passed (threads-told t) (threads .if2 .left) in
     goes (passed (places-told (places .before)) (places .if4 .left))
     (goes (passed (time-told (time .before)) (time .if5 .left))

@@ -1,5 +1,4 @@
 -- `code_rules_records::may_have_waiters` meets its contract: of a live semaphore the count decides.
-use borrow.Author.Needs.{needs}
 use borrow.Author.Tests.{not-true, not-false}
 use Rattle.code_rules_records.proofs.may_have_waiters.Statement.{statement}
 use Rattle.code_rules_records.proofs.may_have_waiters.Tie as tie

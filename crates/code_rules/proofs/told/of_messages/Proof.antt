@@ -1,6 +1,6 @@
 -- `code_rules::told::of_messages` meets its contract: of the m messages passed `kept`, the set and the keys tell, and the rest decides.
 use Prim.Native.Nat.{_-_, _%_, _≤_}
-use mathlib.Core.Path.{_≡_, refl, sym, ap, _∙_}
+use mathlib.Core.Path.{_≡_, refl, ap, _∙_}
 use mathlib.Core.Bool.{Bool, _&&_}
 use native.Mathlib.Nat.{mod-eq-of-lt}
 use native.Mathlib.Omega.{arith}
@@ -89,8 +89,7 @@ loop-again c =
     let a = k .before .before .before .before .before .before .args in
     let r = getD (a .t1) (l .m) noMessage in
     let o : Owner (a .t2) (getD (a .t2) (r .owner % threadCount) noThread) r =
-    record { full = l .inv .0; there = λ h. rw (mod-eq-of-lt h) } in
-    (
+    record { full = l .inv .0; there = λ h. rw (mod-eq-of-lt h) } in (
       l .inv .0,
       l .inv .1,
       omega arith,

@@ -59,8 +59,7 @@ loop-again c =
     let w = c .before in
     let b = w .before in
     let k = b .before in
-    let l = k .before .before .before .loop in
-    (
+    let l = k .before .before .before .loop in (
       l .inv .0,
       omega arith,
       sweep-next (l .inv .2) noSemaphore (omega arith) (b .both .ensures ∙ ap (λ (x : Bool). l .kept && x) (k .semaphore-kept .ensures)),

@@ -41,8 +41,7 @@ abbrev μ-loop : tie.MeasureT-loop
 loop-holds : tie.Need-loop-holds Inv-loop μ-loop
 loop-holds c =
     let l = c .args .t1 in
-    let e : length l ≡ threadCount = search needs in
-    (
+    let e : length l ≡ threadCount = search needs in (
       e,
       omega arith,
       λ semaphores events bits _. sweep-starts (threadKept semaphores events bits) l,
@@ -108,8 +107,7 @@ loop-again c =
     let homes = ticking .before .before in
     let b = homes .before .before in
     let k = b .before in
-    let l = k .before .before .before .loop in
-    (
+    let l = k .before .before .before .loop in (
       l .inv .0,
       omega arith,
       λ semaphores events bits o. sweep-next (l .inv .2 semaphores events bits o) noThread (omega arith)
