@@ -57,11 +57,6 @@ pub fn keeps_rules(k: Kernel) -> bool
     if !base_tables::is_table(posted, m.queued, streams) {
         return false;
     }
-    runner_kept(
-        k.unscheduled,
-        k.critical,
-        k.runner,
-        base_queue::first(places),
-        t.ready,
-    )
+    let first = base_queue::first(places);
+    runner_kept(k.unscheduled, k.critical, k.runner, first, t.ready)
 }
