@@ -11,7 +11,7 @@ use lib.Bits.{bitAnd, bitOr, bitXor, and-step, or-step, xor-step, and-shr, or-sh
 use lib.Dec.{ltb, eqb, lit<, lit≤}
 use lib.Pow.{pow-pos, mod-pow-add}
 use borrow.Author.Tests.{lt-ltb, le-ltb, eq-eqb, eqb-true, ltb-true, ltb-false}
-use Rattle.base_bits.specs.Words.{bitAt, everyBelow, sameBit}
+use Rattle.base_bits.specs.Words.{hasBit, bitAt, everyBelow, sameBit}
 
 -- ---- cases
 
@@ -53,10 +53,21 @@ test-digit (suc zero) h = refl
 test-digit (suc (suc d)) h = absurd (omega arith)
 
 module _ (word i : ℕ) where
-  -- A bit below 32 is the digit there.
-  pub bit-low : i < 32 → bitAt word i ≡ eqb (word / 2 ^ i % 2) 1
+  -- A bit is the digit there.
+  pub has-low : hasBit word i ≡ eqb (word / 2 ^ i % 2) 1
+  unfolding hasBit
+  has-low = refl
+
+  pub has-digit : word / 2 ^ i % 2 ≡ digit (hasBit word i)
+  has-digit = test-digit _ (mod-lt _ (lit< tt)) ∙ ap digit (sym has-low)
+
+  -- A word has those below 32.
+  pub bit-has : i < 32 → bitAt word i ≡ hasBit word i
   unfolding bitAt
-  bit-low h = rw (lt-ltb i 32 h)
+  bit-has h = rw (lt-ltb i 32 h)
+
+  pub bit-low : i < 32 → bitAt word i ≡ eqb (word / 2 ^ i % 2) 1
+  bit-low h = bit-has h ∙ has-low
 
   -- No bit above 31 is set.
   pub bit-high : 32 ≤ i → bitAt word i ≡ false
@@ -64,36 +75,42 @@ module _ (word i : ℕ) where
   bit-high h = rw (le-ltb i 32 h)
 
   pub bit-digit : i < 32 → word / 2 ^ i % 2 ≡ digit (bitAt word i)
-  bit-digit h = test-digit _ (mod-lt _ (lit< tt)) ∙ ap digit (sym (bit-low h))
+  bit-digit h = has-digit ∙ ap digit (sym (bit-has h))
 
 -- ---- an operation on two words works on each bit apart
 
 module _ (op f : ℕ → ℕ → ℕ) (g : Bool → Bool → Bool)
     (shr : (a b k : ℕ) → op a b / 2 ^ k ≡ op (a / 2 ^ k) (b / 2 ^ k))
     (step : (a b : ℕ) → op a b ≡ op (a / 2) (b / 2) * 2 + f (a % 2) (b % 2))
-    (one : (p q : Bool) → f (digit p) (digit q) ≡ digit (g p q))
-    (none : g false false ≡ false) (a b i : ℕ) where
-  bit-op-low : i < 32 → bitAt (op a b) i ≡ g (bitAt a i) (bitAt b i)
-  bit-op-low h =
-      let r : Bool = g (bitAt a i) (bitAt b i) in
-      let d : op a b / 2 ^ i % 2 ≡ digit r = rw (shr, step, bit-digit a i h, bit-digit b i h, one) (digits-mod _ (digit-small r)) in
-      bit-low (op a b) i h ∙ rw (d, digit-test)
+    (one : (p q : Bool) → f (digit p) (digit q) ≡ digit (g p q)) (a b i : ℕ) where
+  has-op : hasBit (op a b) i ≡ g (hasBit a i) (hasBit b i)
+  has-op =
+      let r : Bool = g (hasBit a i) (hasBit b i) in
+      let d : op a b / 2 ^ i % 2 ≡ digit r = rw (shr, step, has-digit a i, has-digit b i, one) (digits-mod _ (digit-small r)) in
+      has-low (op a b) i ∙ rw (d, digit-test)
 
-  bit-op : bitAt (op a b) i ≡ g (bitAt a i) (bitAt b i)
-  bit-op = below i bit-op-low (λ h. rw (bit-high (op a b) i h, bit-high a i h, bit-high b i h) (sym none))
+  bit-op : g false false ≡ false → bitAt (op a b) i ≡ g (bitAt a i) (bitAt b i)
+  bit-op none =
+      below i
+      (λ h. rw (bit-has (op a b) i h, bit-has a i h, bit-has b i h) has-op)
+      (λ h. rw (bit-high (op a b) i h, bit-high a i h, bit-high b i h) (sym none))
+
+pub has-or : (a b i : ℕ) → hasBit (bitOr a b) i ≡ (hasBit a i || hasBit b i)
+has-or = has-op bitOr max _||_ or-shr or-step (pairs _ refl refl refl refl)
 
 pub bit-and : (a b i : ℕ) → bitAt (bitAnd a b) i ≡ (bitAt a i && bitAt b i)
-bit-and = bit-op bitAnd min _&&_ and-shr and-step (pairs _ refl refl refl refl) refl
+bit-and a b i = bit-op bitAnd min _&&_ and-shr and-step (pairs _ refl refl refl refl) a b i refl
 
 pub bit-or : (a b i : ℕ) → bitAt (bitOr a b) i ≡ (bitAt a i || bitAt b i)
-bit-or = bit-op bitOr max _||_ or-shr or-step (pairs _ refl refl refl refl) refl
+bit-or a b i = bit-op bitOr max _||_ or-shr or-step (pairs _ refl refl refl refl) a b i refl
 
 pub bit-xor : (a b i : ℕ) → bitAt (bitXor a b) i ≡ not (sameBit (bitAt a i) (bitAt b i))
-bit-xor = bit-op bitXor differ (λ p q. not (sameBit p q)) xor-shr xor-step (pairs _ refl refl refl refl) refl
+bit-xor a b i = bit-op bitXor differ (λ p q. not (sameBit p q)) xor-shr xor-step (pairs _ refl refl refl refl) a b i refl
 
 -- ---- two words are equal if each of their bits is the same
 
-same-truth : (p q : Bool) → (p ≡ true → q ≡ true) → (q ≡ true → p ≡ true) → p ≡ q
+-- two tests that pass together are one
+pub same-truth : (p q : Bool) → (p ≡ true → q ≡ true) → (q ≡ true → p ≡ true) → p ≡ q
 same-truth true q f g = sym (f refl)
 same-truth false true f g = g refl
 same-truth false false f g = refl

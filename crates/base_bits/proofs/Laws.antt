@@ -1,47 +1,39 @@
 -- Laws of a bit that is set or cleared, and of the mask 0, for the proofs here and in the crates above.
 -- Assumes nothing.
-use mathlib.Core.Path.{_≡_, refl, sym, ap, _∙_}
+use mathlib.Core.Path.{_≡_, refl, sym, _∙_}
 use mathlib.Core.Bool.{true, false, or-true, or-false, and-false, and-eq-true-iff}
-use Prim.Native.Nat.{ℕ, suc, _+_, _-_, _*_, _/_, _%_, _^_, _≤_, _<_}
-use native.Mathlib.Nat.{one-mul, div-eq-of-lt, div-self, add-div-right}
-use native.Mathlib.Nat.{add-sub-cancel, sub-add-cancel, pow-suc, mul-mod-left, le-div-iff-mul-le}
+use Prim.Native.Nat.{ℕ, _+_, _-_, _*_, _%_, _^_, _≤_, _<_}
+use native.Mathlib.Nat.{one-mul}
+use native.Mathlib.Nat.{add-sub-cancel, sub-add-cancel}
 use native.Mathlib.Omega.{arith}
-use lib.Arith.{lt-of-le-ne}
-use lib.Bits.{bitAnd, bitOr, and-high, or-add-and, or-lt}
-use lib.Dec.{ltb, eqb, lit<}
-use lib.Pow.{pow-pos, pow-lt, pow-add, high-ones, shl-shr, shl-exact}
-use borrow.Author.Tests.{lt-ltb, le-ltb, ltb-true, ltb-false}
-use Rattle.base_bits.specs.Words.{bitAt, withBit, withoutBit, everyBelow, someBelow, allMatch, anyMatch}
-use Rattle.base_bits.proofs.Digits.{either, below, digit, bit-low, bit-digit, bit-or}
+use lib.Bits.{bitAnd, bitOr, or-add-and, or-lt}
+use lib.Dec.{ltb, lit<}
+use lib.Pow.{pow-lt, shl-exact}
+use borrow.Author.Tests.{lt-ltb, le-ltb, ltb-true}
+use Rattle.base_bits.specs.Words.{hasBit, bitAt, withBit, withoutBit, everyBelow, someBelow, allMatch, anyMatch}
+use Rattle.base_bits.proofs.Digits.{either, below, digit, bit-has, bit-or}
+use Rattle.base_bits.proofs.Members.{single-has, single-lacks, and-single, has-large, taken-lacks}
 
 -- With mask 0 every masked bit matches, and not one does [01, calls: Event 3].
 pub mask-none : (values bits : ℕ) → allMatch 0 values bits ≡ true
-unfolding allMatch everyBelow bitAt
+unfolding allMatch everyBelow bitAt hasBit
 mask-none values bits = refl
 
 pub mask-none-any : (values bits : ℕ) → anyMatch 0 values bits ≡ false
-unfolding anyMatch someBelow bitAt
+unfolding anyMatch someBelow bitAt hasBit
 mask-none-any values bits = refl
 
 -- ---- the word of one bit
 
-pub one-shifted : (i : ℕ) → i < 32 → 1 * 2 ^ i % 2 ^ 32 ≡ 2 ^ i
-one-shifted i h = rw (shl-exact 1 i 32 (lit< tt) (omega arith), one-mul)
+pub one-shifted : (width i : ℕ) → i < width → 1 * 2 ^ i % 2 ^ width ≡ 2 ^ i
+one-shifted width i h = rw (shl-exact 1 i width (lit< tt) (omega arith), one-mul)
 
 single-same : (i : ℕ) → i < 32 → bitAt (2 ^ i) i ≡ true
-single-same i h = bit-low (2 ^ i) i h ∙ rw (div-self (pow-pos i))
-
-power-digit : (i j : ℕ) → (i ≡ j → ⊥) → 2 ^ i / 2 ^ j % 2 ≡ 0
-power-digit i j n =
-    either (ltb i j)
-    (λ e. rw (div-eq-of-lt (pow-lt (ltb-true i j e))))
-    (λ e.
-    let s : i ≡ suc (i - suc j) + j = omega (arith, lt-of-le-ne (ltb-false i j e) (λ q. n (sym q))) in
-    rw (s, pow-add, shl-shr, pow-suc, mul-mod-left))
+single-same i h = bit-has (2 ^ i) i h ∙ single-has i
 
 single-other : (i j : ℕ) → (i ≡ j → ⊥) → bitAt (2 ^ i) j ≡ false
 unfolding bitAt
-single-other i j n = rw (power-digit i j n, and-false)
+single-other i j n = rw (single-lacks i j n, and-false)
 
 -- ---- the two definitions, case by case
 
@@ -66,7 +58,7 @@ module _ (word i : ℕ) where
 
 module _ (word i : ℕ) (h : i < 32) where
   and-bit : bitAnd word (2 ^ i) ≡ digit (bitAt word i) * 2 ^ i
-  and-bit = ap (bitAnd word) (sym (high-ones 1 i ∙ one-mul (2 ^ i))) ∙ and-high word 1 i ∙ rw (bit-digit word i h)
+  and-bit = and-single word i ∙ rw (bit-has word i h)
 
   pub with-or : withBit word i ≡ bitOr word (2 ^ i)
   unfolding withBit
@@ -83,22 +75,16 @@ module _ (word i : ℕ) (h : i < 32) where
 module _ (word i : ℕ) (e : bitAt word i ≡ true) where
   set-low : i < 32
   unfolding bitAt
-  set-low = ltb-true i 32 (and-eq-true-iff (ltb i 32) (eqb (word / 2 ^ i % 2) 1) .0 e .0)
+  set-low = ltb-true i 32 (and-eq-true-iff (ltb i 32) (hasBit word i) .0 e .0)
 
-  set-digit : word / 2 ^ i % 2 ≡ 1
-  set-digit = bit-digit word i set-low ∙ ap digit e
+  set-there : hasBit word i ≡ true
+  set-there = sym (bit-has word i set-low) ∙ e
 
   set-large : 2 ^ i ≤ word
-  set-large =
-      let q : 1 ≤ word / 2 ^ i = omega (arith, set-digit) in
-      omega (arith, le-div-iff-mul-le (pow-pos i) .0 q)
+  set-large = has-large word i set-there
 
   set-taken : bitAt (word - 2 ^ i) i ≡ false
-  set-taken =
-      let q : word / 2 ^ i ≡ (word - 2 ^ i) / 2 ^ i + 1 =
-      ap (λ (x : ℕ). x / 2 ^ i) (sym (sub-add-cancel set-large)) ∙ add-div-right (word - 2 ^ i) (pow-pos i) in
-      let z : (word - 2 ^ i) / 2 ^ i % 2 ≡ 0 = omega (arith, set-digit) in
-      bit-low (word - 2 ^ i) i set-low ∙ rw z
+  set-taken = bit-has (word - 2 ^ i) i set-low ∙ taken-lacks word i set-there
 
 -- ---- what holds of a word whose bit i is set or cleared
 

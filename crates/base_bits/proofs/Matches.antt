@@ -3,11 +3,12 @@
 use mathlib.Core.Path.{_≡_, refl, ap, _∙_}
 use mathlib.Core.Bool.{Bool, true, false, not, _&&_, _||_, and-false}
 use Prim.Native.Nat.{ℕ, zero, suc, _^_, _<_}
-use native.Mathlib.Nat.{zero-div, lt-of-le-of-lt}
+use native.Mathlib.Nat.{lt-of-le-of-lt}
 use lib.Bits.{bitAnd, bitXor, and-le-r}
 use lib.Dec.{eqb, lit<}
 use Rattle.base_bits.specs.Words.{bitAt, everyBelow, someBelow, sameBit, allMatch, anyMatch}
 use Rattle.base_bits.proofs.Digits.{pairs, bit-and, bit-xor, same-word}
+use Rattle.base_bits.proofs.Members.{has-none}
 
 not-both : (a b : Bool) → not (a && b) ≡ (not a || not b)
 not-both = pairs _ refl refl refl refl
@@ -19,7 +20,7 @@ not-every (suc n) f = not-both (everyBelow n f) (f n) ∙ ap (λ (b : Bool). b |
 
 no-bit : (i : ℕ) → bitAt 0 i ≡ false
 unfolding bitAt
-no-bit i = rw (zero-div, and-false)
+no-bit i = rw (has-none, and-false)
 
 -- of one bit, with its mask and its value: it is not a masked one that differs; it is not the mask again
 all-bit : (m v b : Bool) → sameBit (not (sameBit b v) && m) false ≡ (not m || sameBit v b)

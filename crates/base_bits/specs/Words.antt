@@ -4,9 +4,13 @@ use Prim.Native.Nat.{ℕ, zero, suc, _+_, _-_, _/_, _%_, _^_}
 use mathlib.Core.Bool.{Bool, true, false, cond, not, _&&_, _||_}
 use lib.Dec.{ltb, eqb}
 
+-- Bit i of the number is set.
+unfoldable pub hasBit : ℕ → ℕ → Bool
+hasBit word i = eqb (word / 2 ^ i % 2) 1
+
 -- Bit i of the word is set; no bit above 31 is.
 unfoldable pub bitAt : ℕ → ℕ → Bool
-bitAt word i = ltb i 32 && eqb (word / 2 ^ i % 2) 1
+bitAt word i = ltb i 32 && hasBit word i
 
 -- The word with bit i set; a bit above 31 leaves it.
 unfoldable pub withBit : ℕ → ℕ → ℕ

@@ -2,6 +2,8 @@
 ghost use mathlib.Core.Path.{_≡_};
 ghost use Rattle.base_bits.specs.Words.{bitAt, withBit, withoutBit, allMatch, anyMatch};
 
+pub mod sets;
+
 // Whether bit i of the word is set; no bit above 31 is.
 pub fn bit(word: u32, i: u8) -> bool
     ensures { λ r. ⌜ r ≡ bitAt word i ⌝ }

@@ -65,18 +65,6 @@ module _ {A : Type 0} where
         let r : everyFrom f (suc k) l ≡ true = every-intro (suc k) l (λ i h. rw (suc-add, ← add-suc) (g (suc i) (omega arith))) in
         rw (z, r)
 
-    -- a loop that tests each of the first n, from k on
-    module _ (l : List A) (n k : ℕ) where
-      pub every-next : k < n → k < length l → f k (getD l k d) ≡ true
-          → everyFrom f k (drop k (take n l)) ≡ everyFrom f (k + 1) (drop (k + 1) (take n l))
-      every-next h e p = rw (rest-next d l n k h e, p, add-one)
-
-      pub every-stop : k < n → k < length l → f k (getD l k d) ≡ false → everyFrom f k (drop k (take n l)) ≡ false
-      every-stop h e p = rw (rest-next d l n k h e, p)
-
-      pub every-end : min n (length l) ≤ k → everyFrom f k (drop k (take n l)) ≡ true
-      every-end h = rw (rest-end l n k h)
-
   -- a test that does not look at the place may count from anywhere
   pub every-anywhere : (f : A → Bool) (j k : ℕ) (l : List A) → everyFrom (λ _. f) j l ≡ everyFrom (λ _. f) k l
   every-anywhere f j k [] = refl
@@ -91,9 +79,6 @@ module _ (x : ℕ) where
           → cond b (suc (count x (l ++ m))) (count x (l ++ m)) ≡ cond b (suc (count x l)) (count x l) + count x m
       go true e = omega arith
       go false e = e
-
-  pub count-next : (l : List ℕ) (k : ℕ) → k < length l → count x (take (k + 1) l) ≡ count x (take k l) + cond (eqb (getD l k 0) x) 1 0
-  count-next l k h = rw (add-one, take-suc l k 0 h, count-append)
 
   -- the search among the first n: found at k, not at k, and at the end
   module _ (l : List ℕ) (n k : ℕ) where

@@ -2,7 +2,7 @@
 ghost use mathlib.Core.Path.{_≡_};
 ghost use mathlib.Core.List.{[]};
 ghost use lib.ListN.{length};
-ghost use Rattle.base_queue.specs.Lists.{without, placeOf, count, firstOf, below};
+ghost use Rattle.base_queue.specs.Lists.{without, placeOf, firstOf};
 ghost use Rattle.base_queue.specs.Queues.{items, pack, front, roomFor, isTidy};
 
 // How many places a queue has.
@@ -57,24 +57,6 @@ pub fn place_of(q: Queue, x: u8) -> usize
         i += 1;
     }
     n
-}
-
-// How often x stands in it.
-pub fn count(q: Queue, x: u8) -> usize
-    ensures { λ r. ⌜ r ≡ count x (items q) ⌝ }
-{
-    let at = q.at;
-    let n = size(q);
-    let mut c: usize = 0;
-    let mut i: usize = 0;
-    while i < n {
-        let y = at[i];
-        i += 1;
-        if y == x {
-            c += 1;
-        }
-    }
-    c
 }
 
 // Without x.
@@ -144,28 +126,11 @@ pub fn is_tidy(q: Queue) -> bool
     if LENGTHS < q.n {
         return false;
     }
+    let mut all: u8 = 0;
     let mut i = q.n as usize;
     while i < CAPACITY {
-        if at[i] != 0 {
-            return false;
-        }
+        all = all | at[i];
         i += 1;
     }
-    true
-}
-
-// Whether every member is below `bound`.
-pub fn all_below(q: Queue, bound: u8) -> bool
-    ensures { λ r. ⌜ r ≡ below bound (items q) ⌝ }
-{
-    let at = q.at;
-    let n = size(q);
-    let mut i: usize = 0;
-    while i < n {
-        if bound <= at[i] {
-            return false;
-        }
-        i += 1;
-    }
-    true
+    all == 0
 }

@@ -1,10 +1,13 @@
 // The state rules of each record by itself, as a test.
 ghost use mathlib.Core.Path.{_≡_};
-ghost use Rattle.spec_rules.specs.Tests.{noWake, isNoThread, isNoSemaphore, isNoMessage, semaphoreWaited, eventWaited};
+ghost use mathlib.Core.Bool.{_&&_};
+ghost use lib.Dec.{eqb};
+ghost use Rattle.spec_rules.specs.Tests.{noWake, isNoThread, isNoSemaphore, isNoMessage};
 ghost use Rattle.spec_rules.specs.Tests.{conditionKept, liveThreadKept, threadKept, liveSemaphoreKept, semaphoreKept};
 ghost use Rattle.spec_rules.specs.Tests.{liveMessageKept, messageKept};
+ghost use Rattle.code_rules_records.specs.Others.{ByObjects, ByOwner};
+use base_bits::sets;
 use spec_kernel::records::Condition;
-use spec_kernel::records::Event;
 use spec_kernel::records::Message;
 use spec_kernel::records::Semaphore;
 use spec_kernel::records::Thread;
@@ -48,80 +51,35 @@ fn is_no_thread(r: Thread) -> bool
 fn is_no_semaphore(r: Semaphore) -> bool
     ensures { λ b. ⌜ b ≡ isNoSemaphore r ⌝ }
 {
-    if r.count != 0 {
-        return false;
-    }
-    if r.maximum != 0 {
-        return false;
-    }
-    if r.ticks != 0 {
-        return false;
-    }
-    r.period == 0
+    (r.count as u32) | (r.maximum as u32) | r.ticks | r.period == 0
 }
 
 fn is_no_message(r: Message) -> bool
     ensures { λ b. ⌜ b ≡ isNoMessage r ⌝ }
 {
-    if r.owner != 0 {
-        return false;
-    }
-    if r.sender != 0 {
-        return false;
-    }
-    if r.kind != 0 {
-        return false;
-    }
-    if r.size != 0 {
-        return false;
-    }
-    if r.address != 0 {
-        return false;
-    }
-    r.channel == 0
+    (r.owner as u32) | (r.sender as u32) | (r.kind as u32) | r.size | r.address | (r.channel as u32)
+        == 0
 }
 
-// A live semaphore that nobody need wait for at a count above 0.
-fn semaphore_waited(semaphores: [Semaphore; sizes::SEMAPHORES], i: u8) -> bool
-    ensures { λ b. ⌜ b ≡ semaphoreWaited semaphores i ⌝ }
+// Whether a semaphore may have waiters: it is live and its count is 0.
+pub fn may_have_waiters(r: Semaphore) -> bool
+    ensures { λ b. ⌜ b ≡ (r .live && eqb (r .count) 0) ⌝ }
 {
-    if sizes::SEMAPHORE_IDS <= i {
+    if !r.live {
         return false;
     }
-    let j = i as usize;
-    let s = semaphores[j];
-    if !s.live {
-        return false;
-    }
-    s.count == 0
+    r.count == 0
 }
 
-// An event that isn't TRUE.
-fn event_waited(events: [Event; sizes::EVENTS], bits: u32, i: u8) -> bool
-    ensures { λ b. ⌜ b ≡ eventWaited events bits i ⌝ }
-{
-    if sizes::EVENT_IDS <= i {
-        return false;
-    }
-    let j = i as usize;
-    let e = events[j];
-    !code_kernel::truth::is_true(bits, e)
-}
-
-fn condition_kept(
-    semaphores: [Semaphore; sizes::SEMAPHORES],
-    events: [Event; sizes::EVENTS],
-    bits: u32,
-    ticks: u32,
-    c: Condition,
-) -> bool
-    ensures { λ b. ⌜ b ≡ conditionKept semaphores events bits ticks c ⌝ }
+// `waited` has the semaphores, and `untrue` the events, that may have waiters.
+fn condition_kept(waited: u64, untrue: u64, ticks: u32, c: Condition) -> bool
+    ensures { λ b. ⌜ ByObjects waited untrue b (λ semaphores events bits. conditionKept semaphores events bits ticks c) ⌝ }
 {
     match c {
         Condition::Ready => ticks == 0,
         Condition::Asleep => 0 < ticks,
-        Condition::ForSemaphore(i) => semaphore_waited(semaphores, i),
-        Condition::ForEvent(i) => event_waited(events, bits, i),
+        Condition::ForSemaphore(i) => sets::has(waited, i),
+        Condition::ForEvent(i) => sets::has(untrue, i),
         Condition::ForMessage(mask) => {
             if mask == 0 {
                 return false;
@@ -131,13 +89,8 @@ fn condition_kept(
     }
 }
 
-fn live_thread_kept(
-    semaphores: [Semaphore; sizes::SEMAPHORES],
-    events: [Event; sizes::EVENTS],
-    bits: u32,
-    r: Thread,
-) -> bool
-    ensures { λ b. ⌜ b ≡ liveThreadKept semaphores events bits r ⌝ }
+fn live_thread_kept(waited: u64, untrue: u64, r: Thread) -> bool
+    ensures { λ b. ⌜ ByObjects waited untrue b (λ semaphores events bits. liveThreadKept semaphores events bits r) ⌝ }
 {
     if r.priority == 0 {
         return false;
@@ -157,19 +110,14 @@ fn live_thread_kept(
         }
     }
     let c = r.condition;
-    condition_kept(semaphores, events, bits, r.ticks, c)
+    condition_kept(waited, untrue, r.ticks, c)
 }
 
-pub fn thread_kept(
-    semaphores: [Semaphore; sizes::SEMAPHORES],
-    events: [Event; sizes::EVENTS],
-    bits: u32,
-    r: Thread,
-) -> bool
-    ensures { λ b. ⌜ b ≡ threadKept semaphores events bits r ⌝ }
+pub fn thread_kept(waited: u64, untrue: u64, r: Thread) -> bool
+    ensures { λ b. ⌜ ByObjects waited untrue b (λ semaphores events bits. threadKept semaphores events bits r) ⌝ }
 {
     if r.live {
-        live_thread_kept(semaphores, events, bits, r)
+        live_thread_kept(waited, untrue, r)
     } else {
         is_no_thread(r)
     }
@@ -200,14 +148,13 @@ pub fn semaphore_kept(r: Semaphore) -> bool
     }
 }
 
-fn live_message_kept(threads: [Thread; sizes::THREADS], r: Message) -> bool
-    ensures { λ b. ⌜ b ≡ liveMessageKept threads r ⌝ }
+// `owner` is the record of the message's owner, if there is such a thread.
+fn live_message_kept(owner: Thread, r: Message) -> bool
+    ensures { λ b. ⌜ ByOwner owner r b (λ threads. liveMessageKept threads r) ⌝ }
 {
     if sizes::THREAD_IDS <= r.owner {
         return false;
     }
-    let i = r.owner as usize;
-    let owner = threads[i];
     if !owner.live {
         return false;
     }
@@ -221,11 +168,11 @@ fn live_message_kept(threads: [Thread; sizes::THREADS], r: Message) -> bool
     !code_kernel::conditions::awaits(c, r.channel)
 }
 
-pub fn message_kept(threads: [Thread; sizes::THREADS], r: Message) -> bool
-    ensures { λ b. ⌜ b ≡ messageKept threads r ⌝ }
+pub fn message_kept(owner: Thread, r: Message) -> bool
+    ensures { λ b. ⌜ ByOwner owner r b (λ threads. messageKept threads r) ⌝ }
 {
     if r.live {
-        live_message_kept(threads, r)
+        live_message_kept(owner, r)
     } else {
         is_no_message(r)
     }

@@ -10,7 +10,7 @@ shl-result : tie.Need-shl-result
 shl-result c = search needs
 
 returns : tie.Need-returns
-returns c = rw (one-shifted _ (c .if1 .taken)) (sym (with-or _ _ (c .if1 .taken)))
+returns c = rw (one-shifted 32 _ (c .if1 .taken)) (sym (with-or _ _ (c .if1 .taken)))
 
 returns-2 : tie.Need-returns-2
 returns-2 c = sym (with-high _ _ (c .if1 .left))

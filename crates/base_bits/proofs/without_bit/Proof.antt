@@ -15,7 +15,7 @@ sub-result : tie.Need-sub-result
 sub-result c = and-le-l (c .before .args .word) _
 
 returns : tie.Need-returns
-returns c = rw (one-shifted _ (c .if1 .taken)) (sym (without-and _ _ (c .if1 .taken)))
+returns c = rw (one-shifted 32 _ (c .if1 .taken)) (sym (without-and _ _ (c .if1 .taken)))
 
 returns-2 : tie.Need-returns-2
 returns-2 c = sym (without-clear _ _ (bit-high _ _ (c .if1 .left)))

@@ -1,120 +1,168 @@
 -- `code_rules::keeps_rules` meets its contract: the first part that fails answers, and the last where none did.
 use Prim.Native.Nat.{ℕ}
-use mathlib.Core.Path.{_≡_, refl, _∙_}
+use mathlib.Core.Path.{_≡_, ap, _∙_}
 use mathlib.Core.Bool.{Bool}
 use mathlib.Core.List.{List, [], _∷_}
-use lib.ListN.{drop}
 use borrow.Author.Needs.{needs}
 use Rattle.spec_kernel.specs.declared.records.Kernel.{Kernel}
-use Rattle.spec_rules.specs.Tests.{placesKept, timeKept, postedKept, threadsKept}
-use Rattle.spec_rules.specs.Tests.{semaphoresKept, messagesKept, runnerKept, keepsRules, allOf}
 use Rattle.code_rules_records.proofs.Answers.{refused, passed}
-use Rattle.code_rules_records.proofs.Runs.{stops, goes, ends}
+use Rattle.code_rules_records.proofs.Runs.{goes, ends}
+use Rattle.spec_rules.specs.Tests.{placesKept, timeKept, postedKept, threadsKept}
+use Rattle.spec_rules.specs.Tests.{semaphoresKept, messagesKept, runnerKept, keepsRules}
+use Rattle.code_rules.specs.Telling.{runnerBy}
+use Rattle.code_rules.proofs.Parts.{fails, objects, semaphores-part, threads-part, messages-part}
+use Rattle.code_rules.proofs.Parts.{places-part, time-part, posted-part, runner-part}
 use Rattle.code_rules.proofs.keeps_rules.Statement.{statement}
 use Rattle.code_rules.proofs.keeps_rules.Tie as tie
 
 abbrev tests : Kernel → List Bool
 tests k = placesKept k ∷ timeKept k ∷ postedKept k ∷ threadsKept k ∷ semaphoresKept k ∷ messagesKept k ∷ runnerKept k ∷ []
 
--- with n tests passed, the rest decides
-abbrev After : ℕ → Kernel → Type 0
-After n k = allOf (drop n (tests k)) ≡ keepsRules k
+-- ---- where each part stands
+abbrev kernel : tie.After-of-semaphores → Kernel
+kernel c = c .before .before .before .before .before .args .k
 
-abbrev kernel-1 : tie.Else1 → Kernel
-kernel-1 c = c .before .before .args .k
+abbrev semaphores-at : tie.After-of-threads → tie.After-of-semaphores
+semaphores-at c = c .before .before .before .before
 
-abbrev kernel-2 : tie.Else2 → Kernel
-kernel-2 c = kernel-1 (c .before .before)
+abbrev threads-at : tie.After-of-messages → tie.After-of-threads
+threads-at c = c .before .before .before
 
-abbrev kernel-3 : tie.Else3 → Kernel
-kernel-3 c = kernel-2 (c .before .before)
+abbrev messages-at : tie.After-is-table → tie.After-of-messages
+messages-at c = c .before .before .before .before .before
 
-abbrev kernel-4 : tie.Else4 → Kernel
-kernel-4 c = kernel-3 (c .before .before)
+abbrev places-at : tie.After-is-table2 → tie.After-is-table
+places-at c = c .before .before .before .before
 
-abbrev kernel-5 : tie.Else5 → Kernel
-kernel-5 c = kernel-4 (c .before .before)
+abbrev time-at : tie.After-is-table3 → tie.After-is-table2
+time-at c = c .before .before .before .before
 
-abbrev kernel-6 : tie.Else6 → Kernel
-kernel-6 c = kernel-5 (c .before .before)
+-- ---- what each part says
+semaphores-told : (c : tie.After-of-semaphores) → c .of-semaphores .result .kept ≡ semaphoresKept (kernel c)
+semaphores-told c = semaphores-part (kernel c) (c .of-semaphores .ensures)
 
-after-1 : (c : tie.Else1) → After 1 (kernel-1 c)
-unfolding keepsRules
-after-1 c = goes (passed (c .before .places-kept .ensures) (c .if1 .left)) refl
+threads-told : (c : tie.After-of-threads) → c .of-threads .result .kept ≡ threadsKept (kernel (semaphores-at c))
+threads-told c =
+    let k = kernel (semaphores-at c) in
+    threads-part k (c .of-threads .ensures) (objects k (semaphores-at c .of-semaphores .ensures) (c .before .of-events .ensures))
 
-after-2 : (c : tie.Else2) → After 2 (kernel-2 c)
-after-2 c = goes (passed (c .before .time-kept .ensures) (c .if2 .left)) refl ∙ after-1 (c .before .before)
+messages-told : (c : tie.After-of-messages) → c .of-messages .result .kept ≡ messagesKept (kernel (semaphores-at (threads-at c)))
+messages-told c = messages-part (kernel (semaphores-at (threads-at c))) (c .of-messages .ensures)
 
-after-3 : (c : tie.Else3) → After 3 (kernel-3 c)
-after-3 c = goes (passed (c .before .posted-kept .ensures) (c .if3 .left)) refl ∙ after-2 (c .before .before)
+places-told : (c : tie.After-is-table) → c .is-table .result ≡ placesKept (kernel (semaphores-at (threads-at (messages-at c))))
+places-told c =
+    let t = threads-at (messages-at c) in
+    c .is-table .ensures ∙ places-part (kernel (semaphores-at t)) (t .of-threads .ensures)
 
-after-4 : (c : tie.Else4) → After 4 (kernel-4 c)
-after-4 c = goes (passed (c .before .threads-kept .ensures) (c .if4 .left)) refl ∙ after-3 (c .before .before)
+time-told : (c : tie.After-is-table2) → c .is-table2 .result ≡ timeKept (kernel (semaphores-at (threads-at (messages-at (places-at c)))))
+time-told c =
+    let t = threads-at (messages-at (places-at c)) in
+    c .is-table2 .ensures ∙ time-part (kernel (semaphores-at t)) (t .of-threads .ensures)
 
-after-5 : (c : tie.Else5) → After 5 (kernel-5 c)
-after-5 c = goes (passed (c .before .semaphores-kept .ensures) (c .if5 .left)) refl ∙ after-4 (c .before .before)
+posted-told : (c : tie.After-is-table3)
+    → c .is-table3 .result ≡ postedKept (kernel (semaphores-at (threads-at (messages-at (places-at (time-at c))))))
+posted-told c =
+    let m = messages-at (places-at (time-at c)) in
+    c .is-table3 .ensures ∙ posted-part (kernel (semaphores-at (threads-at m))) (m .of-messages .ensures)
 
-after-6 : (c : tie.Else6) → After 6 (kernel-6 c)
-after-6 c = goes (passed (c .before .messages-kept .ensures) (c .if6 .left)) refl ∙ after-5 (c .before .before)
-
-places-kept-requires : tie.Need-places-kept-requires
-places-kept-requires c κs = search needs
+of-semaphores-requires : tie.Need-of-semaphores-requires
+of-semaphores-requires c κs = search needs
 
 returns : tie.Need-returns
 unfolding keepsRules
-returns c = stops _ (refused (c .before .places-kept .ensures) (c .if1 .taken))
+returns c = let s = c .before .before in fails 4 (tests (kernel s)) (refused (semaphores-told s) (c .if1 .taken))
 
-time-kept-requires : tie.Need-time-kept-requires
-time-kept-requires c κs = search needs
+of-events-requires : tie.Need-of-events-requires
+of-events-requires c κs = search needs
+
+of-threads-requires : tie.Need-of-threads-requires
+of-threads-requires c κs = search needs
 
 returns-2 : tie.Need-returns-2
-returns-2 c = stops _ (refused (c .before .time-kept .ensures) (c .if2 .taken)) ∙ after-1 (c .before .before)
+unfolding keepsRules
+returns-2 c = let t = c .before .before in fails 3 (tests (kernel (semaphores-at t))) (refused (threads-told t) (c .if2 .taken))
 
-posted-kept-requires : tie.Need-posted-kept-requires
-posted-kept-requires c κs = search needs
+of-messages-requires : tie.Need-of-messages-requires
+of-messages-requires c κs = search needs
 
 returns-3 : tie.Need-returns-3
-returns-3 c = stops _ (refused (c .before .posted-kept .ensures) (c .if3 .taken)) ∙ after-2 (c .before .before)
+unfolding keepsRules
+returns-3 c =
+    let m = c .before .before in
+    fails 5 (tests (kernel (semaphores-at (threads-at m)))) (refused (messages-told m) (c .if3 .taken))
 
-threads-kept-requires : tie.Need-threads-kept-requires
-threads-kept-requires c κs = search needs
+is-table-requires : tie.Need-is-table-requires
+is-table-requires c κs = search needs
 
 returns-4 : tie.Need-returns-4
-returns-4 c = stops _ (refused (c .before .threads-kept .ensures) (c .if4 .taken)) ∙ after-3 (c .before .before)
+unfolding keepsRules
+returns-4 c =
+    let p = c .before in
+    fails 0 (tests (kernel (semaphores-at (threads-at (messages-at p))))) (refused (places-told p) (c .if4 .taken))
 
-semaphores-kept-requires : tie.Need-semaphores-kept-requires
-semaphores-kept-requires c κs = search needs
+is-table-requires-2 : tie.Need-is-table-requires-2
+is-table-requires-2 c κs = search needs
 
 returns-5 : tie.Need-returns-5
-returns-5 c = stops _ (refused (c .before .semaphores-kept .ensures) (c .if5 .taken)) ∙ after-4 (c .before .before)
+unfolding keepsRules
+returns-5 c =
+    let q = c .before in
+    fails 1 (tests (kernel (semaphores-at (threads-at (messages-at (places-at q)))))) (refused (time-told q) (c .if5 .taken))
 
-messages-kept-requires : tie.Need-messages-kept-requires
-messages-kept-requires c κs = search needs
+is-table-requires-3 : tie.Need-is-table-requires-3
+is-table-requires-3 c κs = search needs
 
 returns-6 : tie.Need-returns-6
-returns-6 c = stops _ (refused (c .before .messages-kept .ensures) (c .if6 .taken)) ∙ after-5 (c .before .before)
+unfolding keepsRules
+returns-6 c =
+    let q = c .before in
+    fails 2 (tests (kernel (semaphores-at (threads-at (messages-at (places-at (time-at q))))))) (refused (posted-told q) (c .if6 .taken))
+
+first-requires : tie.Need-first-requires
+first-requires c κs = search needs
 
 runner-kept-requires : tie.Need-runner-kept-requires
 runner-kept-requires c κs = search needs
 
 returns-7 : tie.Need-returns-7
-returns-7 c = ends (c .runner-kept .ensures) ∙ after-6 (c .before)
+unfolding keepsRules
+returns-7 c =
+    let posted = c .before .before in
+    let time = posted .before .before .before .before in
+    let places = time .before .before .before .before in
+    let messages = places .before .before .before .before in
+    let threads = messages .before .before .before in
+    let semaphores = threads .before .before .before .before in
+    let t = threads .before .before in
+    let k = kernel (semaphores-at t) in
+    let ready = t .of-threads .result .ready in
+    let ran = ap (λ (x : ℕ). runnerBy (k .unscheduled) (k .critical) (k .runner) x ready) (c .before .first .ensures) in
+    let kept = passed (threads-told t) (threads .if2 .left) in
+    goes (passed (places-told (places .before)) (places .if4 .left))
+    (goes (passed (time-told (time .before)) (time .if5 .left))
+    (goes (passed (posted-told (posted .before)) (posted .if6 .left))
+    (goes kept
+    (goes (passed (semaphores-told (semaphores .before .before)) (semaphores .if1 .left))
+    (goes (passed (messages-told (messages .before .before)) (messages .if3 .left))
+    (ends (c .runner-kept .ensures ∙ ran ∙ runner-part k (t .of-threads .ensures) kept)))))))
 
 pub keeps-rules-spec : {M : Type 1} → statement M
 keeps-rules-spec =
     tie.close
     (tie.spec
-    places-kept-requires
+    of-semaphores-requires
     returns
-    time-kept-requires
+    of-events-requires
+    of-threads-requires
     returns-2
-    posted-kept-requires
+    of-messages-requires
     returns-3
-    threads-kept-requires
+    is-table-requires
     returns-4
-    semaphores-kept-requires
+    is-table-requires-2
     returns-5
-    messages-kept-requires
+    is-table-requires-3
     returns-6
+    first-requires
     runner-kept-requires
     returns-7)

@@ -1,4 +1,5 @@
 -- `code_rules_records::condition_kept` meets its contract, case by case.
+use mathlib.Core.Path.{_∙_}
 use native.Mathlib.Omega.{arith}
 use borrow.Author.Tests.{lt-ltb, le-ltb}
 use borrow.Author.Needs.{needs}
@@ -15,43 +16,43 @@ enum-told-2 c = search needs
 enum-known-c : tie.Need-enum-known-c
 enum-known-c c = search needs
 
-semaphore-waited-requires : tie.Need-semaphore-waited-requires
-semaphore-waited-requires c κs = search needs
+has-requires : tie.Need-has-requires
+has-requires c κs = search needs
 
 enum-known-c-2 : tie.Need-enum-known-c-2
 enum-known-c-2 c = search needs
 
-event-waited-requires : tie.Need-event-waited-requires
-event-waited-requires c κs = search needs
+has-requires-2 : tie.Need-has-requires-2
+has-requires-2 c κs = search needs
 
 enum-known-c-3 : tie.Need-enum-known-c-3
 enum-known-c-3 c = search needs
 
 returns : tie.Need-returns
 unfolding conditionKept
-returns c =
+returns c _ _ _ _ =
     let m = c .before .before .c3 .given in
     rw (m .1, le-ltb 0 (m .0 .0) (omega arith))
 
 returns-2 : tie.Need-returns-2
 unfolding conditionKept
-returns-2 c = rw (c .enum-told .given .1)
+returns-2 c _ _ _ _ = rw (c .enum-told .given .1)
 
 returns-3 : tie.Need-returns-3
 unfolding conditionKept
-returns-3 c = rw (c .enum-told2 .given .1)
+returns-3 c _ _ _ _ = rw (c .enum-told2 .given .1)
 
 returns-4 : tie.Need-returns-4
 unfolding conditionKept
-returns-4 c = rw (c .before .before .c .given .1) (c .semaphore-waited .ensures)
+returns-4 c _ _ _ o = rw (c .before .before .c .given .1) (c .has .ensures ∙ o .semaphore _)
 
 returns-5 : tie.Need-returns-5
 unfolding conditionKept
-returns-5 c = rw (c .before .before .c2 .given .1) (c .event-waited .ensures)
+returns-5 c _ _ _ o = rw (c .before .before .c2 .given .1) (c .has2 .ensures ∙ o .event _)
 
 returns-6 : tie.Need-returns-6
 unfolding conditionKept
-returns-6 c =
+returns-6 c _ _ _ _ =
     let m = c .before .before .c3 .given in
     rw (m .1, lt-ltb 0 (m .0 .0) (omega arith))
 
@@ -62,9 +63,9 @@ condition-kept-spec =
     enum-told
     enum-told-2
     enum-known-c
-    semaphore-waited-requires
+    has-requires
     enum-known-c-2
-    event-waited-requires
+    has-requires-2
     enum-known-c-3
     returns
     returns-2

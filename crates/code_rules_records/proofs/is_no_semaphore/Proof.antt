@@ -1,42 +1,20 @@
--- `code_rules_records::is_no_semaphore` meets its contract: the first field that is not 0 answers, and the last where none did.
-use Prim.Native.Nat.{ℕ}
-use mathlib.Core.Path.{_≡_, refl}
-use mathlib.Core.Bool.{false}
-use mathlib.Core.List.{List, [], _∷_}
-use native.Mathlib.Omega.{arith}
-use lib.Dec.{eqb}
-use lib.ListN.{getD}
-use Rattle.spec_kernel.specs.declared.records.Semaphore.{Semaphore}
+-- `code_rules_records::is_no_semaphore` meets its contract: the fields are 0 together where each is.
+use mathlib.Core.Bool.{and-true, and-assoc}
+use borrow.Author.Needs.{needs}
+use Rattle.base_bits.proofs.Members.{or-none}
 use Rattle.spec_rules.specs.Tests.{isNoSemaphore}
-use Rattle.code_rules_records.proofs.Runs.{sum, zeros-stop, zeros-end}
 use Rattle.code_rules_records.proofs.is_no_semaphore.Statement.{statement}
 use Rattle.code_rules_records.proofs.is_no_semaphore.Tie as tie
 
-module _ (r : Semaphore) where
-  abbrev fields : List ℕ
-  fields = r .count ∷ r .maximum ∷ r .ticks ∷ r .period ∷ []
+cast-result : tie.Need-cast-result
+cast-result c = search needs
 
-  -- of the fields, n are 0 and the next is not
-  stops-at : (n : ℕ) → sum n fields ≡ 0 → (getD fields n 0 ≡ 0 → ⊥) → false ≡ isNoSemaphore r
-  unfolding isNoSemaphore
-  stops-at n z h = zeros-stop n fields z h
-
-  -- the others are 0
-  last : sum 3 fields ≡ 0 → eqb (r .period) 0 ≡ isNoSemaphore r
-  unfolding isNoSemaphore
-  last z = zeros-end 3 fields z refl
+cast-result-2 : tie.Need-cast-result-2
+cast-result-2 c = search needs
 
 returns : tie.Need-returns
-returns c = stops-at _ 0 refl (c .if1 .taken)
-
-returns-2 : tie.Need-returns-2
-returns-2 c = stops-at _ 1 (omega arith) (c .if2 .taken)
-
-returns-3 : tie.Need-returns-3
-returns-3 c = stops-at _ 2 (omega arith) (c .if3 .taken)
-
-returns-4 : tie.Need-returns-4
-returns-4 c = last _ (omega arith)
+unfolding isNoSemaphore
+returns c = simp (or-none, and-assoc, and-true)
 
 pub is-no-semaphore-spec : {M : Type 1} → statement M
-is-no-semaphore-spec = tie.close (tie.spec returns returns-2 returns-3 returns-4)
+is-no-semaphore-spec = tie.close (tie.spec cast-result cast-result-2 returns)

@@ -55,29 +55,29 @@ module _ (semaphores : List Semaphore) (events : List Event) (bits : ℕ) (r : T
       rest h e = in-range (r .priority) p (in-range (r .first) f (goes h (ends e)))
 
 returns : tie.Need-returns
-returns c = priority-out _ _ _ _ (λ h. omega arith)
+returns c _ _ _ _ = priority-out _ _ _ _ (λ h. omega arith)
 
 returns-2 : tie.Need-returns-2
-returns-2 c = priority-out _ _ _ _ (λ h. omega arith)
+returns-2 c _ _ _ _ = priority-out _ _ _ _ (λ h. omega arith)
 
 returns-3 : tie.Need-returns-3
-returns-3 c = first-out _ _ _ _ (omega arith, omega arith) (λ h. omega arith)
+returns-3 c _ _ _ _ = first-out _ _ _ _ (omega arith, omega arith) (λ h. omega arith)
 
 returns-4 : tie.Need-returns-4
-returns-4 c = first-out _ _ _ _ (omega arith, omega arith) (λ h. omega arith)
+returns-4 c _ _ _ _ = first-out _ _ _ _ (omega arith, omega arith) (λ h. omega arith)
 
 returns-5 : tie.Need-returns-5
-returns-5 c = reply-out _ _ _ _ (omega arith, omega arith) (omega arith, omega arith) (omega arith) (c .if6 .taken)
+returns-5 c _ _ _ _ = reply-out _ _ _ _ (omega arith, omega arith) (omega arith, omega arith) (omega arith) (c .if6 .taken)
 
 condition-kept-requires : tie.Need-condition-kept-requires
 condition-kept-requires c κs = search needs
 
 -- where the arms meet, the reply is as it should be
 returns-6 : tie.Need-returns-6
-returns-6 c =
+returns-6 c _ _ _ o =
     rest _ _ _ _ (omega arith, omega arith) (omega arith, omega arith)
     (⊎-elim (λ w. rw (eq-eqb _ _ (w .2 .left), or-true)) (λ w. rw (lt-ltb _ _ (w .left))) (c .before .if5 .came))
-    (c .condition-kept .ensures)
+    (c .condition-kept .ensures _ _ _ o)
 
 pub live-thread-kept-spec : {M : Type 1} → statement M
 live-thread-kept-spec =

@@ -12,11 +12,11 @@ is-no-message-requires c κs = search needs
 
 returns : tie.Need-returns
 unfolding messageKept
-returns c = rw (c .live-message-kept .ensures, c .before .if1 .taken)
+returns c _ o = rw (c .live-message-kept .ensures _ o, c .before .if1 .taken)
 
 returns-2 : tie.Need-returns-2
 unfolding messageKept
-returns-2 c = rw (c .is-no-message .ensures, c .before .if1 .left)
+returns-2 c _ _ = rw (c .is-no-message .ensures, c .before .if1 .left)
 
 pub message-kept-spec : {M : Type 1} → statement M
 message-kept-spec =

@@ -12,11 +12,11 @@ is-no-thread-requires c κs = search needs
 
 returns : tie.Need-returns
 unfolding threadKept
-returns c = rw (c .live-thread-kept .ensures, c .before .if1 .taken)
+returns c _ _ _ o = rw (c .live-thread-kept .ensures _ _ _ o, c .before .if1 .taken)
 
 returns-2 : tie.Need-returns-2
 unfolding threadKept
-returns-2 c = rw (c .is-no-thread .ensures, c .before .if1 .left)
+returns-2 c _ _ _ _ = rw (c .is-no-thread .ensures, c .before .if1 .left)
 
 pub thread-kept-spec : {M : Type 1} → statement M
 thread-kept-spec =
