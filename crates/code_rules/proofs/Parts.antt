@@ -1,7 +1,7 @@
 -- The parts of the test, from what the passes over the records tell.
 use Prim.Native.Nat.{ℕ, zero, suc, _+_, _*_, _≤_}
-use mathlib.Core.Path.{_≡_, refl, sym}
-use mathlib.Core.Bool.{Bool, true, false, _&&_, and-true}
+use mathlib.Core.Path.{_≡_, refl, sym, ap, ap₂, _∙_}
+use mathlib.Core.Bool.{Bool, true, false, _&&_, _||_, or-true, and-true, and-eq-true-iff, false≢true}
 use mathlib.Core.List.{List, [], _∷_}
 use native.Mathlib.Omega.{arith}
 use lib.Dec.{eqb, ltb}
@@ -11,7 +11,7 @@ use borrow.Table.Steps.{cases}
 use Rattle.base_bits.specs.Words.{hasBit}
 use Rattle.base_bits.specs.Sets.{Tells}
 use Rattle.base_queue.specs.declared.Queue.{Queue}
-use Rattle.base_queue.specs.Lists.{firstOf}
+use Rattle.base_queue.specs.Lists.{everyFrom, firstOf}
 use Rattle.base_queue.specs.Queues.{items, isTidy}
 use Rattle.base_queue.specs.Tables.{isPlaced, isOrderedFrom}
 use Rattle.base_tables.specs.Taken.{isTable, Keys}
@@ -27,12 +27,16 @@ use Rattle.spec_kernel.specs.Conditions.{readyFor, isReady, ofSemaphores}
 use Rattle.spec_kernel.specs.Places.{home, homeFor, homeOf, hasHome, rankOf, isQueued, streamOf}
 use Rattle.spec_kernel.specs.Runner.{chosen}
 use Rattle.spec_rules.specs.Tests.{allOf, isTicking, placesKept, timeKept, postedKept, inRank, inTime, inStream}
-use Rattle.spec_rules.specs.Tests.{threadsKept, semaphoresKept, messagesKept, runnerKept}
+use Rattle.spec_rules.specs.Tests.{messageKept, threadsKept, semaphoresKept, messagesKept, runnerKept, keepsRules}
 use Rattle.spec_rules.proofs.OfRecords.{threads-exactly}
+use Rattle.spec_moves.specs.declared.parts.Threads as moves
+use Rattle.spec_moves.specs.declared.parts.Posts.{Posts}
+use Rattle.spec_moves.specs.Standing.{threadsOf, postsOf}
 use Rattle.code_rules_records.specs.Others.{Objects}
 use Rattle.code_rules.specs.declared.told.Semaphores.{Semaphores}
 use Rattle.code_rules.specs.declared.told.Threads.{Threads}
 use Rattle.code_rules.specs.declared.told.Messages.{Messages}
+use Rattle.code_rules.specs.Asked.{ifAsked, keepsAsked}
 use Rattle.code_rules.specs.Telling.{OfSemaphores, OfEvents, OfThreads, OfMessages, runnerBy}
 
 -- one test that fails
@@ -111,3 +115,61 @@ module _ (k : Kernel) where
     pub posted-part : isTable (m .queued) (m .streams) (k .posted) ≡ postedKept k
     unfolding postedKept inStream
     posted-part = table-kept isQueued streamOf (k .messages) noMessage refl (M .full) (M .queued) (M .streams) (k .posted)
+
+-- ---- tests that are made where they are asked for
+module _ (k : Kernel) (m : Messages) (asked : Bool) (M : asked ≡ true → OfMessages (k .messages) (k .threads) m) where
+  pub messages-asked : (asked ≡ false → m .kept ≡ true) → m .kept ≡ ifAsked asked (messagesKept k)
+  messages-asked N = cases asked (λ e. rw e (messages-part k (M e))) (λ e. rw e (N e))
+
+  -- channels are asked for where messages are, and these with the threads or alone
+  pub posted-asked : (threads messages : Bool) → asked ≡ (threads || messages)
+      → ifAsked messages (isTable (m .queued) (m .streams) (k .posted)) ≡ ifAsked messages (postedKept k)
+  posted-asked threads true e = posted-part k (M (e ∙ or-true threads))
+  posted-asked threads false e = refl
+
+-- ---- a state made from one that keeps its rules
+-- a test that passed before passes again where what it looks at is the same
+still : (asked new old : Bool) → old ≡ true → (asked ≡ false → new ≡ old) → ifAsked asked new ≡ new
+still true new old t same = refl
+still false new old t same = sym (same refl ∙ t)
+
+neither : (a b : Bool) → (a || b) ≡ false → (a ≡ false) × (b ≡ false)
+neither true b h = absurd (false≢true (sym h))
+neither false b h = (refl, h)
+
+module _ (e k : Kernel) (t : keepsRules e ≡ true) {threads messages : Bool} (T : threads ≡ false → threadsOf k ≡ threadsOf e)
+    (M : messages ≡ false → postsOf k ≡ postsOf e) where
+  places-same : threads ≡ false → placesKept k ≡ placesKept e
+  unfolding placesKept
+  places-same h =
+      ap (λ (p : moves.Threads). allOf
+      (isTidy (p .places) ∷ isPlaced hasHome (p .records) (items (p .places)) ∷ inRank (p .records) (items (p .places)) ∷ [])) (T h)
+
+  time-same : threads ≡ false → timeKept k ≡ timeKept e
+  unfolding timeKept
+  time-same h =
+      ap (λ (p : moves.Threads). allOf
+      (isTidy (p .time) ∷ isPlaced isTicking (p .records) (items (p .time)) ∷ inTime (p .records) (items (p .time)) ∷ [])) (T h)
+
+  posted-same : messages ≡ false → postedKept k ≡ postedKept e
+  unfolding postedKept
+  posted-same h =
+      ap (λ (p : Posts). allOf
+      (isTidy (p .posted) ∷ isPlaced isQueued (p .records) (items (p .posted)) ∷ inStream (p .records) (items (p .posted)) ∷ [])) (M h)
+
+  messages-same : (threads || messages) ≡ false → messagesKept k ≡ messagesKept e
+  unfolding messagesKept
+  messages-same h =
+      let (a, b) = neither threads messages h in
+      ap₂ (λ (p : moves.Threads) (q : Posts). everyFrom (λ _ r. messageKept (p .records) r) 0 (q .records)) (T a) (M b)
+
+  pub asked-means : keepsAsked threads messages k ≡ keepsRules k
+  unfolding keepsAsked keepsRules
+  asked-means =
+      let (places, (time, (posted, (_, (_, (posts, _)))))) = simp (and-true, and-eq-true-iff) at t in
+      rw (
+        still threads (placesKept k) (placesKept e) places places-same,
+        still threads (timeKept k) (timeKept e) time time-same,
+        still messages (postedKept k) (postedKept e) posted posted-same,
+        still (threads || messages) (messagesKept k) (messagesKept e) posts messages-same,
+      )

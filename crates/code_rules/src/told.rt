@@ -1,6 +1,6 @@
 // One pass over each table of records: whether each keeps its rules, and what the tables of places and the runner are tested by.
 ghost use mathlib.Core.Path.{_≡_};
-ghost use mathlib.Core.Bool.{_&&_};
+ghost use mathlib.Core.Bool.{true, false, _&&_};
 ghost use Rattle.code_rules.specs.Telling.{OfSemaphores, OfEvents, OfThreads, OfMessages};
 use base_bits::sets;
 use base_queue::CAPACITY;
@@ -100,7 +100,7 @@ pub fn of_threads(threads: [Thread; sizes::THREADS], waited: u64, untrue: u64) -
     }
 }
 
-pub fn of_messages(
+fn of_messages(
     messages: [Message; sizes::MESSAGES],
     threads: [Thread; sizes::THREADS],
 ) -> Messages
@@ -124,4 +124,22 @@ pub fn of_messages(
         queued,
         streams,
     }
+}
+
+// The same where they are asked for; else nothing is told, and nothing fails.
+pub fn messages_if(
+    asked: bool,
+    messages: [Message; sizes::MESSAGES],
+    threads: [Thread; sizes::THREADS],
+) -> Messages
+    ensures { λ r. ⌜ (asked ≡ true → OfMessages messages threads r) × (asked ≡ false → r .kept ≡ true) ⌝ }
+{
+    if !asked {
+        return Messages {
+            kept: true,
+            queued: 0,
+            streams: [0u32; CAPACITY],
+        };
+    }
+    of_messages(messages, threads)
 }
