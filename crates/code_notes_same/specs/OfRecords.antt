@@ -1,22 +1,28 @@
--- The tests of `sameKernel` in two parts: the four kinds of records, and what else a state has.
+-- Whether two states are the same, as far as it is asked for: threads and their places, or messages and theirs, may be left out. In two
+-- parts: the four kinds of records, and what else a state has.
 use mathlib.Core.Bool.{Bool}
-use mathlib.Core.List.{List, [], _∷_}
+use mathlib.Core.List.{List, [], _∷_, _++_}
 use Rattle.spec_kernel.specs.declared.records.Kernel.{Kernel}
+use Rattle.code_rules_records.specs.Asked.{ifAsked}
+use Rattle.spec_rules.specs.Tests.{allOf}
 use Rattle.spec_notes.specs.Touched.{sameThread, sameSemaphore, sameEvent, sameMessage}
 use Rattle.spec_notes.specs.Same.{sameAll, sameQueue, sameNumbers}
 
-abbrev pub ofRecords : Kernel → Kernel → List Bool
-ofRecords a b =
-    sameAll sameThread (a .threads) (b .threads)
+abbrev pub ofRecords : Bool → Bool → Kernel → Kernel → List Bool
+ofRecords threads messages a b =
+    ifAsked threads (sameAll sameThread (a .threads) (b .threads))
     ∷ sameAll sameSemaphore (a .semaphores) (b .semaphores)
     ∷ sameAll sameEvent (a .events) (b .events)
-    ∷ sameAll sameMessage (a .messages) (b .messages)
+    ∷ ifAsked messages (sameAll sameMessage (a .messages) (b .messages))
     ∷ []
 
-abbrev pub ofOthers : Kernel → Kernel → List Bool
-ofOthers a b =
-    sameQueue (a .places) (b .places)
-    ∷ sameQueue (a .time) (b .time)
-    ∷ sameQueue (a .posted) (b .posted)
+abbrev pub ofOthers : Bool → Bool → Kernel → Kernel → List Bool
+ofOthers threads messages a b =
+    ifAsked threads (sameQueue (a .places) (b .places))
+    ∷ ifAsked threads (sameQueue (a .time) (b .time))
+    ∷ ifAsked messages (sameQueue (a .posted) (b .posted))
     ∷ sameNumbers a b
     ∷ []
+
+unfoldable pub sameAsked : Bool → Bool → Kernel → Kernel → Bool
+sameAsked threads messages a b = allOf (ofRecords threads messages a b ++ ofOthers threads messages a b)

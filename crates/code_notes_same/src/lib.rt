@@ -2,10 +2,11 @@
 ghost use mathlib.Core.Path.{_≡_};
 ghost use mathlib.Core.Bool.{true};
 ghost use mathlib.Core.Logic.{_↔_};
+ghost use Rattle.code_rules_records.specs.Asked.{ifAsked};
 ghost use Rattle.spec_rules.specs.Tests.{allOf};
 ghost use Rattle.spec_notes.specs.Touched.{sameRow, sameThread, sameSemaphore, sameEvent, sameMessage};
 ghost use Rattle.spec_notes.specs.Same.{sameAll, sameQueue, sameNumbers, sameKernel};
-ghost use Rattle.code_notes_same.specs.OfRecords.{ofRecords};
+ghost use Rattle.code_notes_same.specs.OfRecords.{ofRecords, sameAsked};
 use base_queue::CAPACITY;
 use base_queue::Queue;
 use code_notes_events::event_rows;
@@ -32,6 +33,20 @@ fn same_threads(a: [Thread; sizes::THREADS], b: [Thread; sizes::THREADS]) -> boo
         i += 1;
     }
     true
+}
+
+// Where they are asked for; so too messages and queues.
+fn threads_if(
+    asked: bool,
+    a: [Thread; sizes::THREADS],
+    b: [Thread; sizes::THREADS],
+) -> bool
+    ensures { λ r. ⌜ r ≡ ifAsked asked (sameAll sameThread a b) ⌝ }
+{
+    if !asked {
+        return true;
+    }
+    same_threads(a, b)
 }
 
 fn same_semaphores(a: [Semaphore; sizes::SEMAPHORES], b: [Semaphore; sizes::SEMAPHORES]) -> bool
@@ -79,6 +94,19 @@ fn same_messages(a: [Message; sizes::MESSAGES], b: [Message; sizes::MESSAGES]) -
     true
 }
 
+fn messages_if(
+    asked: bool,
+    a: [Message; sizes::MESSAGES],
+    b: [Message; sizes::MESSAGES],
+) -> bool
+    ensures { λ r. ⌜ r ≡ ifAsked asked (sameAll sameMessage a b) ⌝ }
+{
+    if !asked {
+        return true;
+    }
+    same_messages(a, b)
+}
+
 fn same_places(a: [u8; CAPACITY], b: [u8; CAPACITY]) -> bool
     ensures { λ r. ⌜ r ≡ sameRow a b ⌝ }
 {
@@ -103,6 +131,15 @@ fn same_queue(a: Queue, b: Queue) -> bool
     same_places(x, y)
 }
 
+fn queue_if(asked: bool, a: Queue, b: Queue) -> bool
+    ensures { λ r. ⌜ r ≡ ifAsked asked (sameQueue a b) ⌝ }
+{
+    if !asked {
+        return true;
+    }
+    same_queue(a, b)
+}
+
 // Bits, uptime, levels and runner.
 fn same_numbers(a: Kernel, b: Kernel) -> bool
     ensures { λ r. ⌜ r ≡ sameNumbers a b ⌝ }
@@ -123,18 +160,18 @@ fn same_numbers(a: Kernel, b: Kernel) -> bool
 }
 
 // The four kinds of records.
-fn same_records(a: Kernel, b: Kernel) -> bool
-    ensures { λ r. ⌜ r ≡ allOf (ofRecords a b) ⌝ }
+fn same_records(a: Kernel, b: Kernel, threads: bool, messages: bool) -> bool
+    ensures { λ r. ⌜ r ≡ allOf (ofRecords threads messages a b) ⌝ }
 {
-    let threads = a.threads;
+    let records = a.threads;
     let semaphores = a.semaphores;
     let events = a.events;
-    let messages = a.messages;
+    let posts = a.messages;
     let other_threads = b.threads;
     let other_semaphores = b.semaphores;
     let other_events = b.events;
-    let other_messages = b.messages;
-    if !same_threads(threads, other_threads) {
+    let other_posts = b.messages;
+    if !threads_if(threads, records, other_threads) {
         return false;
     }
     if !same_semaphores(semaphores, other_semaphores) {
@@ -143,24 +180,31 @@ fn same_records(a: Kernel, b: Kernel) -> bool
     if !same_events(events, other_events) {
         return false;
     }
-    same_messages(messages, other_messages)
+    messages_if(messages, posts, other_posts)
+}
+
+// Whether two states are the same, but for threads and their places, or messages and theirs, where these aren't asked for.
+pub fn same_asked(a: Kernel, b: Kernel, threads: bool, messages: bool) -> bool
+    ensures { λ r. ⌜ r ≡ sameAsked threads messages a b ⌝ }
+{
+    if !same_records(a, b, threads, messages) {
+        return false;
+    }
+    if !queue_if(threads, a.places, b.places) {
+        return false;
+    }
+    if !queue_if(threads, a.time, b.time) {
+        return false;
+    }
+    if !queue_if(messages, a.posted, b.posted) {
+        return false;
+    }
+    same_numbers(a, b)
 }
 
 // Whether two states are one, whatever they hold.
 pub fn same_kernel(a: Kernel, b: Kernel) -> bool
     ensures { λ r. ⌜ (r ≡ sameKernel a b) × ((r ≡ true) ↔ (a ≡ b)) ⌝ }
 {
-    if !same_records(a, b) {
-        return false;
-    }
-    if !same_queue(a.places, b.places) {
-        return false;
-    }
-    if !same_queue(a.time, b.time) {
-        return false;
-    }
-    if !same_queue(a.posted, b.posted) {
-        return false;
-    }
-    same_numbers(a, b)
+    same_asked(a, b, true, true)
 }

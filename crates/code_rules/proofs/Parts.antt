@@ -36,7 +36,9 @@ use Rattle.code_rules_records.specs.Others.{Objects}
 use Rattle.code_rules.specs.declared.told.Semaphores.{Semaphores}
 use Rattle.code_rules.specs.declared.told.Threads.{Threads}
 use Rattle.code_rules.specs.declared.told.Messages.{Messages}
-use Rattle.code_rules.specs.Asked.{ifAsked, keepsAsked}
+use Rattle.code_rules_records.specs.Asked.{ifAsked}
+use Rattle.code_rules_records.proofs.Answers.{still}
+use Rattle.code_rules.specs.Asked.{keepsAsked}
 use Rattle.code_rules.specs.Telling.{OfSemaphores, OfEvents, OfThreads, OfMessages, runnerBy}
 
 -- one test that fails
@@ -128,11 +130,6 @@ module _ (k : Kernel) (m : Messages) (asked : Bool) (M : asked ≡ true → OfMe
   posted-asked threads false e = refl
 
 -- ---- a state made from one that keeps its rules
--- a test that passed before passes again where what it looks at is the same
-still : (asked new old : Bool) → old ≡ true → (asked ≡ false → new ≡ old) → ifAsked asked new ≡ new
-still true new old t same = refl
-still false new old t same = sym (same refl ∙ t)
-
 neither : (a b : Bool) → (a || b) ≡ false → (a ≡ false) × (b ≡ false)
 neither true b h = absurd (false≢true (sym h))
 neither false b h = (refl, h)

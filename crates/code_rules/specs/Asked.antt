@@ -1,12 +1,9 @@
 -- The test of a state that is made from one that keeps its rules: what can't have changed isn't looked at.
-use mathlib.Core.Bool.{Bool, true, cond, _||_}
+use mathlib.Core.Bool.{Bool, _||_}
 use mathlib.Core.List.{[], _∷_}
 use Rattle.spec_kernel.specs.declared.records.Kernel.{Kernel}
+use Rattle.code_rules_records.specs.Asked.{ifAsked}
 use Rattle.spec_rules.specs.Tests.{allOf, placesKept, timeKept, postedKept, threadsKept, semaphoresKept, messagesKept, runnerKept}
-
--- a test that is made only where it is asked for
-abbrev pub ifAsked : Bool → Bool → Bool
-ifAsked asked test = cond asked test true
 
 -- `threads`: some thread, or its place, may be another one; `messages`: some message, or its place
 unfoldable pub keepsAsked : Bool → Bool → Kernel → Bool

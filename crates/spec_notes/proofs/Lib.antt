@@ -26,3 +26,4 @@ pub mod SameStates
 pub mod WithinKept
 pub mod Yields
 pub mod Undoing
+pub mod Unnoted

@@ -5,11 +5,11 @@ use Rattle.code_rules_records.proofs.Answers.{refused, passed}
 use Rattle.code_notes_same.proofs.same_records.Statement.{statement}
 use Rattle.code_notes_same.proofs.same_records.Tie as tie
 
-same-threads-requires : tie.Need-same-threads-requires
-same-threads-requires c κs = search needs
+threads-if-requires : tie.Need-threads-if-requires
+threads-if-requires c κs = search needs
 
 returns : tie.Need-returns
-returns c = rw (refused (c .before .same-threads .ensures) (c .if1 .taken))
+returns c = rw (refused (c .before .threads-if .ensures) (c .if1 .taken))
 
 same-semaphores-requires : tie.Need-same-semaphores-requires
 same-semaphores-requires c κs = search needs
@@ -17,7 +17,7 @@ same-semaphores-requires c κs = search needs
 returns-2 : tie.Need-returns-2
 returns-2 c =
     let d = c .before .before in
-    rw (passed (d .before .same-threads .ensures) (d .if1 .left), refused (c .before .same-semaphores .ensures) (c .if2 .taken))
+    rw (passed (d .before .threads-if .ensures) (d .if1 .left), refused (c .before .same-semaphores .ensures) (c .if2 .taken))
 
 same-events-requires : tie.Need-same-events-requires
 same-events-requires c κs = search needs
@@ -27,13 +27,13 @@ returns-3 c =
     let e = c .before .before in
     let d = e .before .before in
     rw (
-      passed (d .before .same-threads .ensures) (d .if1 .left),
+      passed (d .before .threads-if .ensures) (d .if1 .left),
       passed (e .before .same-semaphores .ensures) (e .if2 .left),
       refused (c .before .same-events .ensures) (c .if3 .taken),
     )
 
-same-messages-requires : tie.Need-same-messages-requires
-same-messages-requires c κs = search needs
+messages-if-requires : tie.Need-messages-if-requires
+messages-if-requires c κs = search needs
 
 returns-4 : tie.Need-returns-4
 returns-4 c =
@@ -41,22 +41,22 @@ returns-4 c =
     let e = f .before .before in
     let d = e .before .before in
     rw (
-      passed (d .before .same-threads .ensures) (d .if1 .left),
+      passed (d .before .threads-if .ensures) (d .if1 .left),
       passed (e .before .same-semaphores .ensures) (e .if2 .left),
       passed (f .before .same-events .ensures) (f .if3 .left),
       and-true,
     )
-    (c .same-messages .ensures)
+    (c .messages-if .ensures)
 
 pub same-records-spec : {M : Type 1} → statement M
 same-records-spec =
     tie.close
     (tie.spec
-    same-threads-requires
+    threads-if-requires
     returns
     same-semaphores-requires
     returns-2
     same-events-requires
     returns-3
-    same-messages-requires
+    messages-if-requires
     returns-4)
