@@ -1,10 +1,8 @@
--- Whether two states are the same, as far as it is asked for: threads and their places, or messages and theirs, may be left out. In two
--- parts: the four kinds of records, and what else a state has.
+-- The tests of `sameAsked` in two parts: the four kinds of records, and what else a state has.
 use mathlib.Core.Bool.{Bool}
-use mathlib.Core.List.{List, [], _∷_, _++_}
+use mathlib.Core.List.{List, [], _∷_}
 use Rattle.spec_kernel.specs.declared.records.Kernel.{Kernel}
-use Rattle.code_rules_records.specs.Asked.{ifAsked}
-use Rattle.spec_rules.specs.Tests.{allOf}
+use Rattle.spec_rules.specs.Tests.{ifAsked}
 use Rattle.spec_notes.specs.Touched.{sameThread, sameSemaphore, sameEvent, sameMessage}
 use Rattle.spec_notes.specs.Same.{sameAll, sameQueue, sameNumbers}
 
@@ -23,6 +21,3 @@ ofOthers threads messages a b =
     ∷ ifAsked messages (sameQueue (a .posted) (b .posted))
     ∷ sameNumbers a b
     ∷ []
-
-unfoldable pub sameAsked : Bool → Bool → Kernel → Kernel → Bool
-sameAsked threads messages a b = allOf (ofRecords threads messages a b ++ ofOthers threads messages a b)

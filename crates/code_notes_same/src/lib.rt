@@ -2,11 +2,10 @@
 ghost use mathlib.Core.Path.{_≡_};
 ghost use mathlib.Core.Bool.{true};
 ghost use mathlib.Core.Logic.{_↔_};
-ghost use Rattle.code_rules_records.specs.Asked.{ifAsked};
-ghost use Rattle.spec_rules.specs.Tests.{allOf};
+ghost use Rattle.spec_rules.specs.Tests.{allOf, ifAsked};
 ghost use Rattle.spec_notes.specs.Touched.{sameRow, sameThread, sameSemaphore, sameEvent, sameMessage};
-ghost use Rattle.spec_notes.specs.Same.{sameAll, sameQueue, sameNumbers, sameKernel};
-ghost use Rattle.code_notes_same.specs.OfRecords.{ofRecords, sameAsked};
+ghost use Rattle.spec_notes.specs.Same.{sameAll, sameQueue, sameNumbers, sameKernel, sameAsked};
+ghost use Rattle.code_notes_same.specs.OfRecords.{ofRecords};
 use base_queue::CAPACITY;
 use base_queue::Queue;
 use code_notes_events::event_rows;

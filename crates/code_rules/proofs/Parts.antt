@@ -1,7 +1,7 @@
 -- The parts of the test, from what the passes over the records tell.
 use Prim.Native.Nat.{ℕ, zero, suc, _+_, _*_, _≤_}
-use mathlib.Core.Path.{_≡_, refl, sym, ap, ap₂, _∙_}
-use mathlib.Core.Bool.{Bool, true, false, _&&_, _||_, or-true, and-true, and-eq-true-iff, false≢true}
+use mathlib.Core.Path.{_≡_, refl, sym, _∙_}
+use mathlib.Core.Bool.{Bool, true, false, _&&_, _||_, or-true, and-true}
 use mathlib.Core.List.{List, [], _∷_}
 use native.Mathlib.Omega.{arith}
 use lib.Dec.{eqb, ltb}
@@ -11,7 +11,7 @@ use borrow.Table.Steps.{cases}
 use Rattle.base_bits.specs.Words.{hasBit}
 use Rattle.base_bits.specs.Sets.{Tells}
 use Rattle.base_queue.specs.declared.Queue.{Queue}
-use Rattle.base_queue.specs.Lists.{everyFrom, firstOf}
+use Rattle.base_queue.specs.Lists.{firstOf}
 use Rattle.base_queue.specs.Queues.{items, isTidy}
 use Rattle.base_queue.specs.Tables.{isPlaced, isOrderedFrom}
 use Rattle.base_tables.specs.Taken.{isTable, Keys}
@@ -27,18 +27,12 @@ use Rattle.spec_kernel.specs.Conditions.{readyFor, isReady, ofSemaphores}
 use Rattle.spec_kernel.specs.Places.{home, homeFor, homeOf, hasHome, rankOf, isQueued, streamOf}
 use Rattle.spec_kernel.specs.Runner.{chosen}
 use Rattle.spec_rules.specs.Tests.{allOf, isTicking, placesKept, timeKept, postedKept, inRank, inTime, inStream}
-use Rattle.spec_rules.specs.Tests.{messageKept, threadsKept, semaphoresKept, messagesKept, runnerKept, keepsRules}
+use Rattle.spec_rules.specs.Tests.{threadsKept, semaphoresKept, messagesKept, runnerKept, ifAsked}
 use Rattle.spec_rules.proofs.OfRecords.{threads-exactly}
-use Rattle.spec_moves.specs.declared.parts.Threads as moves
-use Rattle.spec_moves.specs.declared.parts.Posts.{Posts}
-use Rattle.spec_moves.specs.Standing.{threadsOf, postsOf}
 use Rattle.code_rules_records.specs.Others.{Objects}
 use Rattle.code_rules.specs.declared.told.Semaphores.{Semaphores}
 use Rattle.code_rules.specs.declared.told.Threads.{Threads}
 use Rattle.code_rules.specs.declared.told.Messages.{Messages}
-use Rattle.code_rules_records.specs.Asked.{ifAsked}
-use Rattle.code_rules_records.proofs.Answers.{still}
-use Rattle.code_rules.specs.Asked.{keepsAsked}
 use Rattle.code_rules.specs.Telling.{OfSemaphores, OfEvents, OfThreads, OfMessages, runnerBy}
 
 -- one test that fails
@@ -128,45 +122,3 @@ module _ (k : Kernel) (m : Messages) (asked : Bool) (M : asked ≡ true → OfMe
       → ifAsked messages (isTable (m .queued) (m .streams) (k .posted)) ≡ ifAsked messages (postedKept k)
   posted-asked threads true e = posted-part k (M (e ∙ or-true threads))
   posted-asked threads false e = refl
-
--- ---- a state made from one that keeps its rules
-neither : (a b : Bool) → (a || b) ≡ false → (a ≡ false) × (b ≡ false)
-neither true b h = absurd (false≢true (sym h))
-neither false b h = (refl, h)
-
-module _ (e k : Kernel) (t : keepsRules e ≡ true) {threads messages : Bool} (T : threads ≡ false → threadsOf k ≡ threadsOf e)
-    (M : messages ≡ false → postsOf k ≡ postsOf e) where
-  places-same : threads ≡ false → placesKept k ≡ placesKept e
-  unfolding placesKept
-  places-same h =
-      ap (λ (p : moves.Threads). allOf
-      (isTidy (p .places) ∷ isPlaced hasHome (p .records) (items (p .places)) ∷ inRank (p .records) (items (p .places)) ∷ [])) (T h)
-
-  time-same : threads ≡ false → timeKept k ≡ timeKept e
-  unfolding timeKept
-  time-same h =
-      ap (λ (p : moves.Threads). allOf
-      (isTidy (p .time) ∷ isPlaced isTicking (p .records) (items (p .time)) ∷ inTime (p .records) (items (p .time)) ∷ [])) (T h)
-
-  posted-same : messages ≡ false → postedKept k ≡ postedKept e
-  unfolding postedKept
-  posted-same h =
-      ap (λ (p : Posts). allOf
-      (isTidy (p .posted) ∷ isPlaced isQueued (p .records) (items (p .posted)) ∷ inStream (p .records) (items (p .posted)) ∷ [])) (M h)
-
-  messages-same : (threads || messages) ≡ false → messagesKept k ≡ messagesKept e
-  unfolding messagesKept
-  messages-same h =
-      let (a, b) = neither threads messages h in
-      ap₂ (λ (p : moves.Threads) (q : Posts). everyFrom (λ _ r. messageKept (p .records) r) 0 (q .records)) (T a) (M b)
-
-  pub asked-means : keepsAsked threads messages k ≡ keepsRules k
-  unfolding keepsAsked keepsRules
-  asked-means =
-      let (places, (time, (posted, (_, (_, (posts, _)))))) = simp (and-true, and-eq-true-iff) at t in
-      rw (
-        still threads (placesKept k) (placesKept e) places places-same,
-        still threads (timeKept k) (timeKept e) time time-same,
-        still messages (postedKept k) (postedKept e) posted posted-same,
-        still (threads || messages) (messagesKept k) (messagesKept e) posts messages-same,
-      )

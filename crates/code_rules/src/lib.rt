@@ -1,11 +1,9 @@
 // The state rules of the whole state, as a test: one pass over each table of records, then one over each table of places.
 ghost use mathlib.Core.Path.{_≡_};
-ghost use Rattle.spec_rules.specs.Tests.{keepsRules};
+ghost use Rattle.spec_rules.specs.Tests.{keepsRules, ifAsked, keepsAsked};
 ghost use mathlib.Core.Bool.{_||_};
 ghost use Rattle.base_tables.specs.Taken.{isTable};
 ghost use Rattle.code_rules.specs.Telling.{runnerBy};
-ghost use Rattle.code_rules_records.specs.Asked.{ifAsked};
-ghost use Rattle.code_rules.specs.Asked.{keepsAsked};
 use base_bits::sets;
 use base_queue::CAPACITY;
 use base_queue::Queue;

@@ -27,3 +27,4 @@ pub mod WithinKept
 pub mod Yields
 pub mod Undoing
 pub mod Unnoted
+pub mod UndoingKept

@@ -1,6 +1,6 @@
 -- Two states are equal exactly if the test of their fields passes.
-use mathlib.Core.Path.{_≡_, refl}
-use mathlib.Core.Bool.{Bool, true, and-true, and-eq-true-iff, false≢true}
+use mathlib.Core.Path.{_≡_, refl, ap}
+use mathlib.Core.Bool.{Bool, true, false, and-true, and-eq-true-iff, false≢true}
 use mathlib.Core.List.{List, [], _∷_}
 use mathlib.Core.Logic.{_↔_}
 use lib.Dec.{eqb}
@@ -11,7 +11,11 @@ use Rattle.base_queue.proofs.Counts.{same}
 use Rattle.spec_kernel.specs.declared.records.Kernel.{Kernel}
 use Rattle.spec_notes.specs.Rows.{eventRow, messageRow}
 use Rattle.spec_notes.specs.Touched.{sameRow, sameThread, sameSemaphore, sameEvent, sameMessage}
-use Rattle.spec_notes.specs.Same.{sameAll, sameQueue, numbersOf, sameNumbers, sameKernel}
+use Rattle.spec_moves.specs.declared.parts.Threads.{Threads}
+use Rattle.spec_moves.specs.declared.parts.Posts.{Posts}
+use Rattle.spec_moves.specs.Standing.{threadsOf, postsOf}
+use Rattle.spec_rules.proofs.Asked.{still}
+use Rattle.spec_notes.specs.Same.{sameAll, sameQueue, numbersOf, sameNumbers, sameKernel, sameAsked}
 use Rattle.spec_notes.proofs.RecordsBack.{same-row, same-thread, same-semaphore, same-event, same-message}
 use Rattle.spec_notes.proofs.Slight.{row-same}
 use Rattle.spec_notes.proofs.Lengths.{thread-same, semaphore-same}
@@ -91,3 +95,20 @@ same-kernel k u h =
 -- whatever the two states hold
 pub same-exactly : (k u : Kernel) → (sameKernel k u ≡ true) ↔ (k ≡ u)
 same-exactly k u = (same-kernel k u, λ e. rw e (kernel-same u))
+
+-- where what isn't asked for is the same
+module _ (k u : Kernel) {threads messages : Bool} (T : threads ≡ false → threadsOf k ≡ threadsOf u)
+    (M : messages ≡ false → postsOf k ≡ postsOf u) where
+  pub same-asked : sameAsked threads messages k u ≡ sameKernel k u
+  unfolding sameAsked sameKernel
+  same-asked =
+      let (records, (_, (_, (posts, (places, (time, (posted, _))))))) = simp (and-true, and-eq-true-iff) at (kernel-same u) in
+      rw (
+        still threads (sameAll sameThread (k .threads) (u .threads)) _ records
+        (λ h. ap (λ (p : Threads). sameAll sameThread (p .records) (u .threads)) (T h)),
+        still messages (sameAll sameMessage (k .messages) (u .messages)) _ posts
+        (λ h. ap (λ (p : Posts). sameAll sameMessage (p .records) (u .messages)) (M h)),
+        still threads (sameQueue (k .places) (u .places)) _ places (λ h. ap (λ (p : Threads). sameQueue (p .places) (u .places)) (T h)),
+        still threads (sameQueue (k .time) (u .time)) _ time (λ h. ap (λ (p : Threads). sameQueue (p .time) (u .time)) (T h)),
+        still messages (sameQueue (k .posted) (u .posted)) _ posted (λ h. ap (λ (p : Posts). sameQueue (p .posted) (u .posted)) (M h)),
+      )

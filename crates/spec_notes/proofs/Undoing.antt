@@ -145,19 +145,19 @@ module _ (k′ : Kernel) (note : List ℕ) where
         )
 
   module _ (Z : Sized k′) (R : Rules k′) (W : Within k′) (B : Bytes note) where
-    found-sized : Sized (backFrom k′ note)
+    pub found-sized : Sized (backFrom k′ note)
     unfolding backFrom
     found-sized = back-sized (callOf (callBytes note)) k′ (sectionsIn (framesOf note)) Z W (frames-bytes note B)
 
-    found-limits : levelsFit (backFrom k′ note) ≡ true → Limits (backFrom k′ note)
+    pub found-limits : levelsFit (backFrom k′ note) ≡ true → Limits (backFrom k′ note)
     unfolding backFrom
     found-limits h = back-limits (callOf (callBytes note)) k′ (sectionsIn (framesOf note)) Z W (frames-bytes note B) h
 
-    record-size : 16 ≤ length note → length (callBytes note) ≡ 16
+    pub record-size : 16 ≤ length note → length (callBytes note) ≡ 16
     unfolding callBytes
     record-size b = length-take-le 16 note b
 
-    record-bytes : Bytes (callBytes note)
+    pub record-bytes : Bytes (callBytes note)
     unfolding callBytes
     record-bytes = take-bytes 16 note B
 
@@ -185,7 +185,7 @@ module _ (k′ : Kernel) (note : List ℕ) where
 
 -- ---- the last one of a log
 module _ (log : List ℕ) (used : ℕ) where
-  last-bytes : Bytes log → Bytes (lastNote log used)
+  pub last-bytes : Bytes log → Bytes (lastNote log used)
   unfolding lastNote
   last-bytes h =
       let n = lastLength log used in

@@ -5,7 +5,7 @@ use mathlib.Core.List.{List, [], _∷_}
 use lib.Dec.{eqb}
 use Rattle.base_queue.specs.declared.Queue.{Queue}
 use Rattle.spec_kernel.specs.declared.records.Kernel.{Kernel}
-use Rattle.spec_rules.specs.Tests.{allOf}
+use Rattle.spec_rules.specs.Tests.{allOf, ifAsked}
 use Rattle.spec_notes.specs.Touched.{sameRow, sameThread, sameSemaphore, sameEvent, sameMessage}
 
 -- two lists, by a test of two of their members
@@ -35,5 +35,19 @@ sameKernel k u =
     ∷ sameQueue (k .places) (u .places)
     ∷ sameQueue (k .time) (u .time)
     ∷ sameQueue (k .posted) (u .posted)
+    ∷ sameNumbers k u
+    ∷ [])
+
+-- ---- The same where it is asked for: threads and their places, or messages and theirs, may be known to be the same.
+unfoldable pub sameAsked : Bool → Bool → Kernel → Kernel → Bool
+sameAsked threads messages k u =
+    allOf
+    (ifAsked threads (sameAll sameThread (k .threads) (u .threads))
+    ∷ sameAll sameSemaphore (k .semaphores) (u .semaphores)
+    ∷ sameAll sameEvent (k .events) (u .events)
+    ∷ ifAsked messages (sameAll sameMessage (k .messages) (u .messages))
+    ∷ ifAsked threads (sameQueue (k .places) (u .places))
+    ∷ ifAsked threads (sameQueue (k .time) (u .time))
+    ∷ ifAsked messages (sameQueue (k .posted) (u .posted))
     ∷ sameNumbers k u
     ∷ [])

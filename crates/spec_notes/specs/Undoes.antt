@@ -1,21 +1,23 @@
 -- The undo as a test: put back, test the rules, run the call again, and compare the state and the note.
 use Prim.Native.Nat.{ℕ}
-use mathlib.Core.Bool.{Bool, true, false, _&&_}
+use mathlib.Core.Bool.{Bool, true, false, not, _&&_, _||_}
 use mathlib.Core.List.{List, [], _∷_}
 use lib.Dec.{eqb, ltb}
 use lib.ListN.{take}
+use Rattle.base_queue.specs.Lists.{isEmpty}
 use Rattle.spec_kernel.specs.declared.records.Kernel.{Kernel}
-use Rattle.spec_rules.specs.Tests.{allOf, keepsRules}
+use Rattle.spec_rules.specs.Tests.{allOf, keepsRules, keepsAsked}
+use Rattle.spec_calls.specs.declared.call.Call.{Call}
 use Rattle.spec_calls.specs.Calls.{callOf}
-use Rattle.spec_refusals.specs.Refusals.{numberOf}
+use Rattle.spec_refusals.specs.Refusals.{is, numberOf}
 use Rattle.spec_moves.specs.States.{scheduled}
 use Rattle.spec_effects.specs.Effects.{effect}
 use Rattle.spec_notes.specs.Touched.{sameRow}
-use Rattle.spec_notes.specs.Notes.{noteOf}
+use Rattle.spec_notes.specs.Notes.{threadsIn, messagesIn, noteOf}
 use Rattle.spec_notes.specs.Back.{stateBefore}
 use Rattle.spec_notes.specs.Frames.{Decoded, nothing, sections, framesOf, sectionsIn}
 use Rattle.spec_notes.specs.Undo.{hasLast, lastNote}
-use Rattle.spec_notes.specs.Same.{sameKernel}
+use Rattle.spec_notes.specs.Same.{sameKernel, sameAsked}
 
 -- The call record is a note's first sixteen bytes [01, notes 1].
 unfoldable pub callBytes : List ℕ → List ℕ
@@ -51,3 +53,31 @@ undoesNote k′ note = isDecoded (framesOf note) && yieldsAgain (backFrom k′ n
 -- the last note of the log is undone
 unfoldable pub undoes : Kernel → List ℕ → ℕ → Bool
 undoes k′ log used = hasLast log used && undoesNote k′ (lastNote log used)
+
+-- ---- The same on an end state that keeps its rules: what the note doesn't speak of isn't looked at.
+-- threads may be others where they have a section, and where time passes; messages where they have one
+abbrev pub threadsAsked : Call → List (List ℕ) → Bool
+threadsAsked c x = is c 1 || not (isEmpty (threadsIn x))
+
+abbrev pub messagesAsked : List (List ℕ) → Bool
+messagesAsked x = not (isEmpty (messagesIn x))
+
+unfoldable pub yieldsAsked : Bool → Bool → Kernel → List ℕ → Kernel → List ℕ → Bool
+yieldsAsked threads messages k bytes k′ note =
+    let next = scheduled (effect k (callOf bytes)) in
+    allOf
+    (levelsFit k
+    ∷ keepsAsked threads messages k
+    ∷ eqb (numberOf k (callOf bytes)) 0
+    ∷ sameRow (noteOf k bytes next) note
+    ∷ sameAsked threads messages next k′
+    ∷ [])
+
+unfoldable pub undoesNoteKept : Kernel → List ℕ → Bool
+undoesNoteKept k′ note =
+    let x = sectionsIn (framesOf note) in
+    isDecoded (framesOf note)
+    && yieldsAsked (threadsAsked (callOf (callBytes note)) x) (messagesAsked x) (backFrom k′ note) (callBytes note) k′ note
+
+unfoldable pub undoesKept : Kernel → List ℕ → ℕ → Bool
+undoesKept k′ log used = hasLast log used && undoesNoteKept k′ (lastNote log used)

@@ -6,3 +6,4 @@ pub mod Whole
 pub mod FromRules
 pub mod ToRules
 pub mod Exactly
+pub mod Asked

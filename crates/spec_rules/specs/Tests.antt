@@ -161,3 +161,21 @@ keepsRules k =
     ∷ messagesKept k
     ∷ runnerKept k
     ∷ [])
+
+-- ---- The same of a state that is made from one that keeps its rules: what can't have changed isn't looked at.
+-- a test that is made only where it is asked for
+abbrev pub ifAsked : Bool → Bool → Bool
+ifAsked asked test = cond asked test true
+
+-- `threads`: some thread, or its place, may be another one; `messages`: some message, or its place
+unfoldable pub keepsAsked : Bool → Bool → Kernel → Bool
+keepsAsked threads messages k =
+    allOf
+    (ifAsked threads (placesKept k)
+    ∷ ifAsked threads (timeKept k)
+    ∷ ifAsked messages (postedKept k)
+    ∷ threadsKept k
+    ∷ semaphoresKept k
+    ∷ ifAsked (threads || messages) (messagesKept k)
+    ∷ runnerKept k
+    ∷ [])

@@ -6,7 +6,8 @@ use borrow.Author.Needs.{needs}
 use Rattle.spec_kernel.specs.declared.records.Kernel.{Kernel}
 use Rattle.spec_rules.specs.Tests.{allOf}
 use Rattle.code_rules_records.proofs.Answers.{refused, passed}
-use Rattle.code_notes_same.specs.OfRecords.{ofRecords, ofOthers, sameAsked}
+use Rattle.code_notes_same.specs.OfRecords.{ofRecords, ofOthers}
+use Rattle.spec_notes.specs.Same.{sameAsked}
 use Rattle.code_notes_same.proofs.same_asked.Statement.{statement}
 use Rattle.code_notes_same.proofs.same_asked.Tie as tie
 

@@ -4,9 +4,8 @@ use mathlib.Core.Bool.{Bool, true}
 use mathlib.Core.Logic.{_↔_}
 use borrow.Author.Needs.{needs}
 use Rattle.spec_kernel.specs.declared.records.Kernel.{Kernel}
-use Rattle.spec_notes.specs.Same.{sameKernel}
+use Rattle.spec_notes.specs.Same.{sameKernel, sameAsked}
 use Rattle.spec_notes.proofs.SameStates.{same-exactly}
-use Rattle.code_notes_same.specs.OfRecords.{sameAsked}
 use Rattle.code_notes_same.proofs.same_kernel.Statement.{statement}
 use Rattle.code_notes_same.proofs.same_kernel.Tie as tie
 

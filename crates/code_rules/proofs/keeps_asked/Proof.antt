@@ -9,8 +9,7 @@ use Rattle.code_rules_records.proofs.Answers.{refused, passed}
 use Rattle.code_rules_records.proofs.Runs.{goes, ends}
 use Rattle.spec_rules.specs.Tests.{placesKept, timeKept, postedKept, threadsKept}
 use Rattle.spec_rules.specs.Tests.{semaphoresKept, messagesKept, runnerKept}
-use Rattle.code_rules_records.specs.Asked.{ifAsked}
-use Rattle.code_rules.specs.Asked.{keepsAsked}
+use Rattle.spec_rules.specs.Tests.{ifAsked, keepsAsked}
 use Rattle.code_rules.specs.Telling.{runnerBy}
 use Rattle.code_rules.proofs.Parts.{fails, objects, semaphores-part, threads-part, messages-asked}
 use Rattle.code_rules.proofs.Parts.{places-part, time-part, posted-asked, runner-part}

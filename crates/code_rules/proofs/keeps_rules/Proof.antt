@@ -1,7 +1,6 @@
 -- `code_rules::keeps_rules` meets its contract: where all is asked for, the test is the whole one.
 use borrow.Author.Needs.{needs}
-use Rattle.spec_rules.specs.Tests.{keepsRules}
-use Rattle.code_rules.specs.Asked.{keepsAsked}
+use Rattle.spec_rules.specs.Tests.{keepsRules, keepsAsked}
 use Rattle.code_rules.proofs.keeps_rules.Statement.{statement}
 use Rattle.code_rules.proofs.keeps_rules.Tie as tie
 
