@@ -1,12 +1,10 @@
 -- Many undos as the loop makes them: with i of n made, the others are still to come.
-use Prim.Native.Nat.{ℕ, zero, suc, _+_, _-_, _≤_, _<_}
-use mathlib.Core.Path.{_≡_, refl}
+use Prim.Native.Nat.{ℕ, suc, _+_, _-_, _≤_, _<_}
+use mathlib.Core.Path.{_≡_}
 use mathlib.Core.List.{List}
 use native.Mathlib.Omega.{arith}
 use borrow.Author.Tests.{eq-eqb, ne-eqb}
-use borrow.Table.Steps.{cases}
 use Rattle.spec_kernel.specs.declared.records.Kernel.{Kernel}
-use Rattle.spec_notes.specs.Undoes.{undoes}
 use Rattle.spec_answers.specs.declared.Logged.{Logged}
 use Rattle.spec_answers.specs.declared.Reached.{Reached}
 use Rattle.spec_answers.specs.Steps.{answer}
@@ -37,14 +35,6 @@ left n i k log used = behind i (undoneKeptMany (n - i) k log used)
 
 pub begin : (n : ℕ) (k : Kernel) (log : List ℕ) (used : ℕ) → undoneKeptMany n k log used ≡ left n 0 k log used
 begin n k log used = let e : n - 0 ≡ n = omega arith in rw e (behind-none (undoneKeptMany n k log used))
-
--- an undo that answers 0 says who runs in the state that it gives
-pub led-back : (k : Kernel) (log : List ℕ) (used : ℕ) (r : Logged) → r ≡ undoneKept k log used → r .answer .number ≡ 0
-    → r ≡ logged (answer 0 255 (r .kernel .runner)) (r .kernel) (r .used)
-unfolding undoneKept
-led-back k log used r e =
-    rw e
-    (cases (undoes k log used) (λ u. rw u (λ _. refl)) (λ u. rw u (λ z. absurd (omega arith))))
 
 module _ (n i : ℕ) (k : Kernel) (log : List ℕ) (used : ℕ) where
   -- the next one, r, is made, or refused

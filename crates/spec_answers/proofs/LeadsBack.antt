@@ -54,7 +54,8 @@ module _ (start : Run) (gone : List (List ℕ)) where
 
     -- and so it does in one call
     pub many-undone : {r : Run} (calls later : List (List ℕ)) → Follows start gone (later ++ calls) r
-        → undoneKeptMany (length later) (r .kernel) (r .log) (r .used) ≡ reached (ledBack (stoodAt start gone calls (r .log))) (length later)
+        → undoneKeptMany (length later) (r .kernel) (r .log) (r .used)
+        ≡ reached (ledBack (stoodAt start gone calls (r .log))) (length later)
     many-undone calls [] F = rw (F .state, F .ends)
     many-undone {r} calls (bytes ∷ later) F =
         let U = run-kept start gone K F in

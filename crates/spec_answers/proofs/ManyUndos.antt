@@ -15,42 +15,35 @@ use Rattle.spec_notes.specs.Within.{OfTypes, AreBytes}
 use Rattle.spec_answers.specs.declared.Logged.{Logged}
 use Rattle.spec_answers.specs.declared.Reached.{Reached}
 use Rattle.spec_answers.specs.Steps.{answer}
-use Rattle.spec_answers.specs.Logs.{logged, undoneKept, undone, reached, lastGiven, oneMore, undoneKeptMany, undoneMany}
-use Rattle.spec_answers.specs.Runs.{Run, undo, after, ledBack, undoneTimes}
+use Rattle.spec_answers.specs.Logs.{logged, undone, reached, oneMore, undoneKeptMany, undoneMany}
+use Rattle.spec_answers.specs.Runs.{Run, undo, after, undoneTimes}
 use Rattle.spec_answers.specs.Promises.{BrokenIsRefused, BrokenUndoesNone, EachIsUndone, AllAreUndone, StopsAtRefusal, RulesAreKept}
 use Rattle.spec_answers.specs.Promises.{UndoneMany, OneReached}
-use Rattle.spec_answers.proofs.Undos.{one-of-three, undone-kept, rules-are-kept}
+use Rattle.spec_answers.proofs.Undos.{one-of-three, led-back, undone-kept, rules-are-kept}
 
 -- where a run stands
 abbrev standing : Kernel → List ℕ → ℕ → Run
 standing k log used = record { kernel = k; log = log; used = used }
 
-module _ (k : Kernel) (log : List ℕ) (used : ℕ) where
-  -- an undo that answers 0 says who runs in the state that it gives
-  led-back : undone k log used .answer .number ≡ 0 → undone k log used ≡ ledBack (after (standing k log used) undo)
-  led-back =
-      one-of-three k log used (λ x. x .answer .number ≡ 0 → x ≡ logged (answer 0 255 (x .kernel .runner)) (x .kernel) (x .used))
-      (λ _ _ _. refl) (λ _ _ z. absurd (omega arith)) (λ _ z. absurd (omega arith))
-
-  -- so n single undos after it are one more
+module _ (k : Kernel) (log : List ℕ) (used : ℕ) (T : OfTypes k) (R : Rules k) where
+  -- after an undo that answers 0, n single undos are one more
   times-next : (n : ℕ) → undone k log used .answer .number ≡ 0
       → undoneTimes (suc n) (standing k log used) ≡ undoneTimes n (after (standing k log used) undo)
-  times-next zero z = led-back z
+  times-next zero z = led-back k log used (undone k log used) (undone-kept k log used T R) z
   times-next (suc n) z = refl
 
-  module _ (T : OfTypes k) (R : Rules k) where
-    -- one that doesn't is answered 15
-    refused-is-15 : (undone k log used .answer .number ≡ 0 → ⊥) → undone k log used .answer .number ≡ 15
-    refused-is-15 =
-        one-of-three k log used (λ x. (x .answer .number ≡ 0 → ⊥) → x .answer .number ≡ 15)
-        (λ _ _ n. absurd (n refl)) (λ _ _ _. refl) (λ e _. absurd (false≢true (sym e ∙ rules-hold k (T .sized) R)))
+  -- one that doesn't answer 0 answers 15
+  refused-is-15 : (undone k log used .answer .number ≡ 0 → ⊥) → undone k log used .answer .number ≡ 15
+  refused-is-15 =
+      one-of-three k log used (λ x. (x .answer .number ≡ 0 → ⊥) → x .answer .number ≡ 15)
+      (λ _ _ n. absurd (n refl)) (λ _ _ _. refl) (λ e _. absurd (false≢true (sym e ∙ rules-hold k (T .sized) R)))
 
-    -- many are one by the public undo, and the rest
-    pub many-next : (n : ℕ)
-        → undoneKeptMany (suc n) k log used
-        ≡ (let r = undone k log used in
-        cond (eqb (r .answer .number) 0) (oneMore (undoneKeptMany n (r .kernel) log (r .used))) (reached r 0))
-    many-next n = rw (undone-kept k log used T R)
+  -- many are one by the public undo, and the rest
+  pub many-next : (n : ℕ)
+      → undoneKeptMany (suc n) k log used
+      ≡ (let r = undone k log used in
+      cond (eqb (r .answer .number) 0) (oneMore (undoneKeptMany n (r .kernel) log (r .used))) (reached r 0))
+  many-next n = rw (undone-kept k log used T R)
 
 -- ---- on a state that keeps its rules
 -- what is promised there
@@ -99,7 +92,7 @@ module _ (log : List ℕ) (B : AreBytes log) where
           kept = S .kept;
           number = S .number;
           each = λ i h. first i h;
-          all = λ e. ap oneMore (S .all e) ∙ ap (λ (x : Logged). reached x (suc n)) (sym (times-next k log used n z));
+          all = λ e. ap oneMore (S .all e) ∙ ap (λ (x : Logged). reached x (suc n)) (sym (times-next k log used T R n z));
           stops = λ e. let (a, b, c) = S .stops e in (a, omega arith, ap oneMore c);
         }
       where

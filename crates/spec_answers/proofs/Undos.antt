@@ -42,6 +42,12 @@ module _ (k : Kernel) (log : List ℕ) (used : ℕ) where
   unfolding undone undoneKept
   not-undone e u = rw (e, u)
 
+  -- where it is, what comes back says who runs in the earlier state
+  pub led-back : (r : Logged) → r ≡ undoneKept k log used → r .answer .number ≡ 0
+      → r ≡ logged (answer 0 255 (r .kernel .runner)) (r .kernel) (r .used)
+  unfolding undoneKept
+  led-back r e = rw e (cases (undoes k log used) (λ u. rw u (λ _. refl)) (λ u. rw u (λ z. absurd (omega arith))))
+
   -- a last note is there only where something is used, and no more than the log has
   last-there : hasLast log used ≡ true → (0 < used) × (used ≤ length log)
   unfolding hasLast

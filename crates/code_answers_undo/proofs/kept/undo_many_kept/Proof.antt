@@ -1,12 +1,13 @@
--- `code_answers_undo::kept::undo_many_kept` meets its contract: after i turns i notes are undone, and the definition has the others to come.
+-- `code_answers_undo::kept::undo_many_kept` meets its contract: after i turns i notes are undone, and the others are still to come.
 use Prim.Native.Nat.{_≤_, _-_}
 use mathlib.Core.Path.{_≡_, sym, ap, _∙_}
 use native.Mathlib.Omega.{arith}
 use borrow.Author.Needs.{needs}
 use Rattle.spec_answers.specs.declared.Logged.{Logged}
 use Rattle.spec_answers.specs.Steps.{answer}
-use Rattle.spec_answers.specs.Logs.{logged, reached, undoneKept, undoneKeptMany}
-use Rattle.code_answers_undo.proofs.Turns.{left, begin, led-back, turn, stop, end}
+use Rattle.spec_answers.specs.Logs.{logged, reached, undoneKeptMany}
+use Rattle.spec_answers.proofs.Undos.{led-back}
+use Rattle.code_answers_undo.proofs.Turns.{left, begin, turn, stop, end}
 use Rattle.code_answers_undo.proofs.kept.undo_many_kept.Statement.{statement}
 use Rattle.code_answers_undo.proofs.kept.undo_many_kept.Tie as tie
 

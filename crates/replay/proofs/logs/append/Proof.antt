@@ -10,6 +10,11 @@ use Rattle.replay.proofs.LogParts.{part-between, part-still, part-moved
 use Rattle.replay.proofs.logs.append.Statement.{statement}
 use Rattle.replay.proofs.logs.append.Tie as tie
 
+-- the used length that the call left
+used-is : (c : tie.After-called) → let a = c .before .before .before .args in
+    c .called .result .used ≡ calledWith (a .k) (a .bytes) (a .log .now) (a .used) .used
+used-is c = ap (λ (x : Logged). x .used) (c .called .ensures .result)
+
 called-requires : tie.Need-called-requires
 called-requires c κs = search needs
 
@@ -24,9 +29,9 @@ part-log-end c = search needs
 
 returns : tie.Need-returns
 returns c =
-    let a = c .before .before .before .before .before .before .before .args in
-    let w = c .before .before .before .before .called in
-    let e : w .result .used ≡ calledWith (a .k) (a .bytes) (a .log .now) (a .used) .used = ap (λ (x : Logged). x .used) (w .ensures .result) in
+    let w : tie.After-called = c .before .before .before .before in
+    let a = w .before .before .before .args in
+    let e = used-is w in
     let n = sym (part-still (a .k) (a .bytes) (a .log .now) (a .used) (rw (← e) (c .before .if1 .taken))) in
     (rw n (appends (a .k) (a .bytes) (a .log .now) (a .used)), λ h. absurd (omega arith))
 
@@ -38,21 +43,19 @@ part-log-start-2 c = search needs
 
 part-log-end-2 : tie.Need-part-log-end-2
 part-log-end-2 c =
-    let a = c .before .before .before .before .before .before .args in
-    let w = c .before .before .before .called in
-    let e : w .result .used ≡ calledWith (a .k) (a .bytes) (a .log .now) (a .used) .used = ap (λ (x : Logged). x .used) (w .ensures .result) in
-    let h : w .result .used ≤ length (a .log .now) =
+    let w : tie.After-called = c .before .before .before in
+    let a = w .before .before .before .args in
+    let e = used-is w in
+    let h : w .called .result .used ≤ length (a .log .now) =
     rw e (part-moved (a .k) (a .bytes) (a .log .now) (a .used) (rw (← e) (c .if1 .left))) in
-    omega (arith, w .kept .1 .1 .0)
+    omega (arith, w .called .kept .1 .1 .0)
 
 returns-2 : tie.Need-returns-2
 returns-2 c =
-    let a = c .before .before .before .before .before .before .before .args in
-    let w = c .before .before .before .before .called in
-    let e : w .result .used ≡ calledWith (a .k) (a .bytes) (a .log .now) (a .used) .used = ap (λ (x : Logged). x .used) (w .ensures .result) in (
-      rw (w .ensures .written, e, part-between (a .k) (a .bytes) (a .log .now) (a .used)) (appends (a .k) (a .bytes) (a .log .now) (a .used)),
-      λ _. refl,
-    )
+    let w : tie.After-called = c .before .before .before .before in
+    let a = w .before .before .before .args in
+    let between = part-between (a .k) (a .bytes) (a .log .now) (a .used) in
+    (rw (w .called .ensures .written, used-is w, between) (appends (a .k) (a .bytes) (a .log .now) (a .used)), λ _. refl)
 
 pub append-spec : {M : Type 1} → statement M
 append-spec =
