@@ -2,7 +2,6 @@
 // each, the uptime, and whether the state is the fresh one again.
 ghost use Rattle.spec_rules.specs.Rules.{Rules};
 use base_bytes::pens;
-use replay::undos;
 use spec_answers::Answer;
 use spec_kernel::records::Kernel;
 
@@ -87,10 +86,13 @@ fn all_forward(log: &mut [u8; 1048576]) -> Run
 
 // ---- backwards
 
-// Every note undone, until an undo is refused; the state that is left.
-fn backwards(k: Kernel, log: &[u8; 1048576], used: usize) -> Kernel {
+// Every note undone, until an undo is refused; the state that is left. The state keeps its rules, and so does every state that an undo
+// gives, so that no undo tests those of the state that it is given.
+fn backwards(k: Kernel, log: &[u8; 1048576], used: usize) -> Kernel
+    requires { ⌜ Rules k ⌝ }
+{
     let mut out = [0u8; 64];
-    let mut l = undos::undo(k, log, used);
+    let mut l = replay::undo_kept(k, log, used);
     let mut turns: u64 = 18446744073709551615;
     while 0 < turns {
         if l.answer.number != 0 {
@@ -99,7 +101,7 @@ fn backwards(k: Kernel, log: &[u8; 1048576], used: usize) -> Kernel {
         let end = put_undo(&mut out, l.answer, l.used);
         io::write_all(1, base_lines::up_to(&out, end));
         let state = l.kernel;
-        l = undos::undo(state, log, l.used);
+        l = replay::undo_kept(state, log, l.used);
         turns -= 1;
     }
     l.kernel

@@ -1,20 +1,22 @@
 use mathlib.Core.Path.{_≡_}
 use lib.ListN.{length}
 use borrow.Author.Needs.{needs}
+use Rattle.spec_rules.specs.Rules.{Rules}
+use Rattle.spec_answers.proofs.Undos.{rules-go-back}
 use Rattle.app_both_ways.proofs.backwards.Statement.{statement}
 use Rattle.app_both_ways.proofs.backwards.Tie as tie
 
 abbrev Inv-loop : tie.InvT-loop
-Inv-loop log used out₀ l₀ turns₀ out l turns = length out ≡ 64
+Inv-loop log used out₀ l₀ turns₀ out l turns = (length out ≡ 64) × Rules (l .kernel)
 
 abbrev μ-loop : tie.MeasureT-loop
 μ-loop log used out₀ l₀ turns₀ out l turns = turns
 
-undo-requires : tie.Need-undo-requires Inv-loop μ-loop
-undo-requires c κs = search needs
+undo-kept-requires : tie.Need-undo-kept-requires Inv-loop μ-loop
+undo-kept-requires c κs = search needs
 
 loop-holds : tie.Need-loop-holds Inv-loop μ-loop
-loop-holds c = search needs
+loop-holds c = (search needs, rules-go-back (c .undo-kept .ensures) (c .before .before .pre))
 
 returns : tie.Need-returns Inv-loop μ-loop
 returns c = search needs
@@ -34,8 +36,8 @@ up-to-requires c κs = search needs
 write-all-requires : tie.Need-write-all-requires Inv-loop μ-loop
 write-all-requires c κs = search needs
 
-undo-requires-2 : tie.Need-undo-requires-2 Inv-loop μ-loop
-undo-requires-2 c κs = search needs
+undo-kept-requires-2 : tie.Need-undo-kept-requires-2 Inv-loop μ-loop
+undo-kept-requires-2 c κs = search needs
 
 sub-turns : tie.Need-sub-turns Inv-loop μ-loop
 sub-turns c = search needs
@@ -44,7 +46,9 @@ loop-less : tie.Need-loop-less Inv-loop μ-loop
 loop-less c = search needs
 
 loop-again : tie.Need-loop-again Inv-loop μ-loop
-loop-again c = search needs
+loop-again c =
+    let turn = c .before .before .before .before .before .before in
+    (search needs, rules-go-back (c .undo-kept2 .ensures) (turn .before .before .before .before .before .before .loop .inv .1))
 
 returns-2 : tie.Need-returns-2 Inv-loop μ-loop
 returns-2 c = search needs
@@ -55,7 +59,7 @@ backwards-spec =
     (tie.spec
     Inv-loop
     μ-loop
-    undo-requires
+    undo-kept-requires
     loop-holds
     returns
     slice-aggregate-put-undo
@@ -63,7 +67,7 @@ backwards-spec =
     slice-aggregate-up-to
     up-to-requires
     write-all-requires
-    undo-requires-2
+    undo-kept-requires-2
     sub-turns
     loop-less
     loop-again
