@@ -14,13 +14,12 @@ use Rattle.spec_rules.proofs.Exactly.{rules-hold}
 use Rattle.spec_notes.proofs.Undoing.{state-found}
 use Rattle.spec_answers.specs.Steps.{called}
 use Rattle.spec_answers.specs.declared.Logged.{Logged}
-use Rattle.spec_answers.specs.Logs.{noteFor, undone, reached, oneMore, undoneKeptMany, undoneMany}
+use Rattle.spec_answers.specs.Logs.{noteFor, undone, reached, oneMore, manyBy, undoneMany}
 use Rattle.spec_answers.specs.Runs.{Undamaged, AreRecords, replayed, Accepts, notes, backTimes, Run, Follows, Step, call, undo}
 use Rattle.spec_answers.specs.Runs.{AreSteps, afterAll, counted, afterCalls, acceptedOf, acceptedFrom}
 use Rattle.spec_answers.specs.Runs.{ledBack, stoodAt, undoneTimes}
 use Rattle.spec_answers.specs.Promises.{RunsFollow, LogLeadsBack, LogLeadsBackAtOnce, LedBetween, NotesLeadBack, AnyMix}
 use Rattle.spec_answers.proofs.Following.{accepted-yields, replayed-kept, call-follows, run-kept}
-use Rattle.spec_answers.proofs.ManyUndos.{many-next}
 use Rattle.spec_answers.proofs.Following.{undo-given, undo-follows, any-undo-follows}
 
 -- at its start a run follows no calls
@@ -54,14 +53,13 @@ module _ (start : Run) (gone : List (List ℕ)) where
 
     -- and so it does in one call
     pub many-undone : {r : Run} (calls later : List (List ℕ)) → Follows start gone (later ++ calls) r
-        → undoneKeptMany (length later) (r .kernel) (r .log) (r .used)
+        → manyBy undone (length later) (r .kernel) (r .log) (r .used)
         ≡ reached (ledBack (stoodAt start gone calls (r .log))) (length later)
     many-undone calls [] F = rw (F .state, F .ends)
     many-undone {r} calls (bytes ∷ later) F =
-        let U = run-kept start gone K F in
         let z : eqb (undone (r .kernel) (r .log) (r .used) .answer .number) 0 ≡ true =
         ap (λ (x : Logged). eqb (x .answer .number) 0) (undo-given start gone K F) in
-        rw (many-next (r .kernel) (r .log) (r .used) (U .types) (U .rules) (length later), z)
+        rw z
         (ap oneMore (many-undone calls later (undo-follows start gone K F)))
 
 pub runs-follow : RunsFollow

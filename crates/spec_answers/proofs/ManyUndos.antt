@@ -12,14 +12,15 @@ use Rattle.spec_rules.specs.Rules.{Rules}
 use Rattle.spec_rules.specs.Tests.{keepsRules}
 use Rattle.spec_rules.proofs.Exactly.{rules-mean, rules-hold}
 use Rattle.spec_notes.specs.Within.{OfTypes, AreBytes}
+use Rattle.spec_notes.specs.Undoes.{undoes}
 use Rattle.spec_answers.specs.declared.Logged.{Logged}
 use Rattle.spec_answers.specs.declared.Reached.{Reached}
 use Rattle.spec_answers.specs.Steps.{answer}
-use Rattle.spec_answers.specs.Logs.{logged, undone, reached, oneMore, undoneKeptMany, undoneMany}
+use Rattle.spec_answers.specs.Logs.{logged, undone, undoneKept, reached, oneMore, manyBy, undoneMany}
 use Rattle.spec_answers.specs.Runs.{Run, undo, after, undoneTimes}
 use Rattle.spec_answers.specs.Promises.{BrokenIsRefused, BrokenUndoesNone, EachIsUndone, AllAreUndone, StopsAtRefusal, RulesAreKept}
 use Rattle.spec_answers.specs.Promises.{UndoneMany, OneReached}
-use Rattle.spec_answers.proofs.Undos.{one-of-three, led-back, undone-kept, rules-are-kept}
+use Rattle.spec_answers.proofs.Undos.{one-of-three, led-back, undone-if, undone-kept, rules-are-kept}
 
 -- where a run stands
 abbrev standing : Kernel → List ℕ → ℕ → Run
@@ -29,7 +30,7 @@ module _ (k : Kernel) (log : List ℕ) (used : ℕ) (T : OfTypes k) (R : Rules k
   -- after an undo that answers 0, n single undos are one more
   times-next : (n : ℕ) → undone k log used .answer .number ≡ 0
       → undoneTimes (suc n) (standing k log used) ≡ undoneTimes n (after (standing k log used) undo)
-  times-next zero z = led-back k log used (undone k log used) (undone-kept k log used T R) z
+  times-next zero z = led-back k log used (undoes k log used) (undone k log used) (undone-if k log used T R) z
   times-next (suc n) z = refl
 
   -- one that doesn't answer 0 answers 15
@@ -37,13 +38,6 @@ module _ (k : Kernel) (log : List ℕ) (used : ℕ) (T : OfTypes k) (R : Rules k
   refused-is-15 =
       one-of-three k log used (λ x. (x .answer .number ≡ 0 → ⊥) → x .answer .number ≡ 15)
       (λ _ _ n. absurd (n refl)) (λ _ _ _. refl) (λ e _. absurd (false≢true (sym e ∙ rules-hold k (T .sized) R)))
-
-  -- many are one by the public undo, and the rest
-  pub many-next : (n : ℕ)
-      → undoneKeptMany (suc n) k log used
-      ≡ (let r = undone k log used in
-      cond (eqb (r .answer .number) 0) (oneMore (undoneKeptMany n (r .kernel) log (r .used))) (reached r 0))
-  many-next n = rw (undone-kept k log used T R)
 
 -- ---- on a state that keeps its rules
 -- what is promised there
@@ -57,7 +51,7 @@ record So (n : ℕ) (s : Run) (r : Reached) : Type 0 where
 
 module _ (log : List ℕ) (B : AreBytes log) where
   -- of none
-  none-so : (k : Kernel) (used : ℕ) → OfTypes k → Rules k → So zero (standing k log used) (undoneKeptMany zero k log used)
+  none-so : (k : Kernel) (used : ℕ) → OfTypes k → Rules k → So zero (standing k log used) (manyBy undone zero k log used)
   none-so k used T R =
       record {
         kept = (T, R);
@@ -100,20 +94,29 @@ module _ (log : List ℕ) (B : AreBytes log) where
         first zero h = z
         first (suc i) h = S .each i (omega arith)
 
-  many-so : (n : ℕ) (k : Kernel) (used : ℕ) → OfTypes k → Rules k → So n (standing k log used) (undoneKeptMany n k log used)
+  many-so : (n : ℕ) (k : Kernel) (used : ℕ) → OfTypes k → Rules k → So n (standing k log used) (manyBy undone n k log used)
   unfolding RulesAreKept
   many-so zero k used T R = none-so k used T R
   many-so (suc n) k used T R =
       let r = undone k log used in
       let (T′, R′) = rules-are-kept k log used T B R in
-      rw (many-next k log used T R n)
-      (cases (eqb (r .answer .number) 0)
+      cases (eqb (r .answer .number) 0)
       (λ e. rw e (undone-so k used T R n (eqb-true (r .answer .number) 0 e) _ (many-so n (r .kernel) (r .used) T′ R′)))
-      (λ e. rw e (refused-so k used T R n (eqb-false (r .answer .number) 0 e))))
+      (λ e. rw e (refused-so k used T R n (eqb-false (r .answer .number) 0 e)))
+
+  -- they are as many without a test
+  pub many-kept : (n : ℕ) (k : Kernel) (used : ℕ) → OfTypes k → Rules k → manyBy undone n k log used ≡ manyBy undoneKept n k log used
+  unfolding RulesAreKept
+  many-kept zero k used T R = refl
+  many-kept (suc n) k used T R =
+      let r = undone k log used in
+      let (T′, R′) = rules-are-kept k log used T B R in
+      let e = undone-kept k log used T B R in
+      rw (many-kept n (r .kernel) (r .used) T′ R′, e)
 
 -- ---- on any state
 module _ (n : ℕ) (k : Kernel) (log : List ℕ) (used : ℕ) (T : OfTypes k) (B : AreBytes log) where
-  kept-many : keepsRules k ≡ true → UndoneMany n k log used (undoneKeptMany n k log used)
+  kept-many : keepsRules k ≡ true → UndoneMany n k log used (manyBy undone n k log used)
   unfolding undoneMany BrokenIsRefused BrokenUndoesNone EachIsUndone AllAreUndone StopsAtRefusal RulesAreKept
   kept-many e =
       let R = rules-mean k (T .sized) e in

@@ -1,7 +1,7 @@
 -- What is promised of one undo: a line for each type of Promises, and the record of them.
 use Prim.Native.Nat.{ℕ, _-_, _≤_, _<_}
 use mathlib.Core.Path.{_≡_, refl, sym, ap, _∙_}
-use mathlib.Core.Bool.{true, false, and-eq-true-iff, false≢true}
+use mathlib.Core.Bool.{Bool, true, false, and-eq-true-iff, false≢true}
 use mathlib.Core.List.{List}
 use mathlib.Core.Logic.{_↔_, ⊎-elim}
 use native.Mathlib.Omega.{arith}
@@ -16,11 +16,12 @@ use Rattle.spec_notes.specs.Within.{OfTypes, AreBytes}
 use Rattle.spec_notes.specs.Undo.{lastLength, hasLast, lastNote, Yields}
 use Rattle.spec_notes.specs.Undoes.{undoes}
 use Rattle.spec_notes.proofs.Yields.{yields-kept}
+use Rattle.spec_notes.proofs.UndoingKept.{undoes-kept}
 use Rattle.spec_notes.proofs.Undoing.{state-found, last-sizes, yields-last, yields-undoes, undo-exactly}
 use Rattle.spec_answers.specs.declared.Answer.{Answer}
 use Rattle.spec_answers.specs.declared.Logged.{Logged}
 use Rattle.spec_answers.specs.Steps.{answer}
-use Rattle.spec_answers.specs.Logs.{logged, backAt, undoneKept, undone}
+use Rattle.spec_answers.specs.Logs.{logged, backAt, undoneIf, undoneKept, undone}
 use Rattle.spec_answers.specs.Promises.{BrokenIsRefused, BrokenIsLeft, UndoneExactly, UndoneIsThat, UndoRefused, NothingToUndo}
 use Rattle.spec_answers.specs.Promises.{RulesAreKept, Undone, UndoneUntested, OneUndo}
 
@@ -32,21 +33,21 @@ module _ (k : Kernel) (log : List ℕ) (used : ℕ) where
       → (keepsRules k ≡ true → undoes k log used ≡ false → P (logged (answer 15 255 (k .runner)) k used))
       → (keepsRules k ≡ false → P (logged (answer 14 255 255) k used))
       → P (undone k log used)
-  unfolding undone undoneKept
+  unfolding undone
   one-of-three P a f b =
       cases (keepsRules k)
       (λ e. cases (undoes k log used) (λ u. rw (e, u) (a e u)) (λ u. rw (e, u) (f e u))) (λ e. rw e (b e))
 
   -- where it isn't, on a state that keeps its rules
   pub not-undone : keepsRules k ≡ true → undoes k log used ≡ false → undone k log used ≡ logged (answer 15 255 (k .runner)) k used
-  unfolding undone undoneKept
+  unfolding undone
   not-undone e u = rw (e, u)
 
   -- where it is, what comes back says who runs in the earlier state
-  pub led-back : (r : Logged) → r ≡ undoneKept k log used → r .answer .number ≡ 0
+  pub led-back : (b : Bool) (r : Logged) → r ≡ undoneIf b k log used → r .answer .number ≡ 0
       → r ≡ logged (answer 0 255 (r .kernel .runner)) (r .kernel) (r .used)
-  unfolding undoneKept
-  led-back r e = rw e (cases (undoes k log used) (λ u. rw u (λ _. refl)) (λ u. rw u (λ z. absurd (omega arith))))
+  led-back true r e = rw e (λ _. refl)
+  led-back false r e = rw e (λ z. absurd (omega arith))
 
   -- a last note is there only where something is used, and no more than the log has
   last-there : hasLast log used ≡ true → (0 < used) × (used ≤ length log)
@@ -58,7 +59,7 @@ module _ (k : Kernel) (log : List ℕ) (used : ℕ) where
 
   -- a state and a call that yield the last note with this state are found
   pub undone-is-that : UndoneIsThat k log used (undone k log used)
-  unfolding UndoneIsThat undone undoneKept
+  unfolding UndoneIsThat undone
   undone-is-that before bytes Y =
       let (Z, R, _, _) = yields-kept Y in
       let s : backAt k log used ≡ before = state-found k (lastNote log used) Y in
@@ -66,10 +67,10 @@ module _ (k : Kernel) (log : List ℕ) (used : ℕ) where
       rw (rules-hold k Z R, yields-undoes log used Y, s) (refl, refl, rw n (omega arith))
 
   module _ (T : OfTypes k) where
-    -- where it keeps its rules no test is needed
-    pub undone-kept : Rules k → undone k log used ≡ undoneKept k log used
+    -- where it keeps its rules the note decides
+    pub undone-if : Rules k → undone k log used ≡ undoneIf (undoes k log used) k log used
     unfolding undone
-    undone-kept R = rw (rules-hold k (T .sized) R)
+    undone-if R = rw (rules-hold k (T .sized) R)
 
     broken-is-refused : BrokenIsRefused k (undone k log used)
     unfolding BrokenIsRefused
@@ -88,6 +89,11 @@ module _ (k : Kernel) (log : List ℕ) (used : ℕ) where
         (λ e _. absurd (n (rules-mean k Z e))) (λ e _. absurd (n (rules-mean k Z e))) (λ _. refl)
 
     module _ (B : AreBytes log) where
+      -- and no test is needed, nor a look at what the note doesn't speak of
+      pub undone-kept : Rules k → undone k log used ≡ undoneKept k log used
+      unfolding undoneKept
+      undone-kept R = undone-if R ∙ ap (λ (b : Bool). undoneIf b k log used) (sym (undoes-kept log used k (T .sized) R (T .within) B))
+
       -- what is undone was yielded
       was-yielded : keepsRules k ≡ true → undoes k log used ≡ true
           → ((before : Kernel) × (bytes : List ℕ) × Yields before bytes k (lastNote log used))
@@ -140,7 +146,7 @@ undoes-so k log used T B =
 pub undoes-untested : (k : Kernel) (log : List ℕ) (used : ℕ) → OfTypes k → AreBytes log
     → UndoneUntested k log used (undoneKept k log used)
 undoes-untested k log used T B =
-    record { result = refl; promised = λ R. rw (undone-kept k log used T R) at (undoes-so k log used T B) }
+    record { result = refl; promised = λ R. rw (undone-kept k log used T B R) at (undoes-so k log used T B) }
 
 -- so a state that keeps the rules is undone to one that does
 pub rules-go-back : {k : Kernel} {log : List ℕ} {used : ℕ} {r : Logged} → UndoneUntested k log used r → Rules k → Rules (r .kernel)

@@ -12,7 +12,7 @@ use Rattle.spec_refusals.specs.Refusals.{refusals, numberOf}
 use Rattle.spec_refusals.specs.Named.{valueOf}
 use Rattle.spec_notes.specs.Notes.{noteOf}
 use Rattle.spec_notes.specs.Undo.{lastLength, lastNote}
-use Rattle.spec_notes.specs.Undoes.{backFrom, undoes}
+use Rattle.spec_notes.specs.Undoes.{backFrom, undoes, undoesKept}
 use Rattle.spec_answers.specs.declared.Answer.{Answer}
 use Rattle.spec_answers.specs.declared.Logged.{Logged}
 use Rattle.spec_answers.specs.declared.Reached.{Reached}
@@ -68,17 +68,18 @@ numbersOf k bytes log used =
 abbrev pub backAt : Kernel → List ℕ → ℕ → Kernel
 backAt k log used = backFrom k (lastNote log used)
 
--- On a state that keeps its rules. Undone, value 255: the earlier state, who ran then, and what was used of the log before the note; else
--- all stays [01, answers 5 to 8].
-unfoldable pub undoneKept : Kernel → List ℕ → ℕ → Logged
-undoneKept k log used =
-    cond (undoes k log used)
-    (logged (answer 0 255 (backAt k log used .runner)) (backAt k log used) (used - lastLength log used))
+-- Undone, value 255: the earlier state, who ran then, and what was used of the log before the note; else all stays [01, answers 5 to 8].
+abbrev pub undoneIf : Bool → Kernel → List ℕ → ℕ → Logged
+undoneIf undoes k log used =
+    cond undoes (logged (answer 0 255 (backAt k log used .runner)) (backAt k log used) (used - lastLength log used))
     (logged (answer 15 255 (k .runner)) k used)
 
--- on any state
 unfoldable pub undone : Kernel → List ℕ → ℕ → Logged
-undone k log used = cond (keepsRules k) (undoneKept k log used) (logged (answer 14 255 255) k used)
+undone k log used = cond (keepsRules k) (undoneIf (undoes k log used) k log used) (logged (answer 14 255 255) k used)
+
+-- without the test of the state, which is to keep its rules: what the note doesn't speak of isn't looked at
+unfoldable pub undoneKept : Kernel → List ℕ → ℕ → Logged
+undoneKept k log used = undoneIf (undoesKept k log used) k log used
 
 -- ---- many undos in one call
 -- what the last of them gave, and how many notes were undone
@@ -92,16 +93,14 @@ lastGiven r = logged (r .answer) (r .kernel) (r .used)
 abbrev pub oneMore : Reached → Reached
 oneMore r = reached (lastGiven r) (suc (r .undone))
 
--- On a state that keeps its rules: one undo after the other until n are made or one is refused. Of none, nothing is refused: 0, value 255,
--- and all stays.
-abbrev pub undoneKeptMany : ℕ → Kernel → List ℕ → ℕ → Reached
-undoneKeptMany zero k log used = reached (logged (answer 0 255 (k .runner)) k used) 0
-undoneKeptMany (suc n) k log used =
-    let r = undoneKept k log used in
-    let rest = undoneKeptMany n (r .kernel) log (r .used) in
+-- One undo after the other until n are made or one is refused. Of none, nothing is refused: 0, value 255, and all stays.
+abbrev pub manyBy : (Kernel → List ℕ → ℕ → Logged) → ℕ → Kernel → List ℕ → ℕ → Reached
+manyBy undo zero k log used = reached (logged (answer 0 255 (k .runner)) k used) 0
+manyBy undo (suc n) k log used =
+    let r = undo k log used in
+    let rest = manyBy undo n (r .kernel) log (r .used) in
     cond (eqb (r .answer .number) 0) (oneMore rest) (reached r 0)
 
 -- on any state: where it breaks a rule, 14 and none undone
 unfoldable pub undoneMany : ℕ → Kernel → List ℕ → ℕ → Reached
-undoneMany n k log used =
-    cond (keepsRules k) (undoneKeptMany n k log used) (reached (logged (answer 14 255 255) k used) 0)
+undoneMany n k log used = cond (keepsRules k) (manyBy undone n k log used) (reached (logged (answer 14 255 255) k used) 0)
