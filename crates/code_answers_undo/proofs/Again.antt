@@ -1,7 +1,7 @@
 -- The branches of the undo, each from what its tests have found.
 use Prim.Native.Nat.{ℕ, _+_, _-_, _≤_}
 use mathlib.Core.Path.{_≡_, refl, sym, ap, _∙_}
-use mathlib.Core.Bool.{true, false, cond, and-true, and-eq-true-iff, false≢true}
+use mathlib.Core.Bool.{Bool, true, false, cond, and-true, and-eq-true-iff, false≢true}
 use mathlib.Core.List.{List, [], _++_}
 use native.Mathlib.Omega.{arith}
 use lib.Dec.{eqb, ltb}
@@ -12,18 +12,19 @@ use borrow.Table.Steps.{cases}
 use Rattle.base_bytes.specs.Bytes.{un}
 use Rattle.base_bytes.proofs.Appending.{noted-room}
 use Rattle.spec_kernel.specs.declared.records.Kernel.{Kernel}
-use Rattle.spec_rules.specs.Tests.{keepsRules}
+use Rattle.spec_rules.specs.Tests.{keepsAsked}
 use Rattle.spec_calls.specs.declared.call.Call.{Call}
 use Rattle.spec_calls.specs.Calls.{callOf}
 use Rattle.spec_refusals.specs.Refusals.{numberOf}
 use Rattle.spec_refusals.specs.Named.{valueOf}
 use Rattle.spec_notes.specs.Touched.{sameRow}
-use Rattle.spec_notes.specs.Same.{sameKernel}
+use Rattle.spec_notes.specs.Same.{sameAsked}
 use Rattle.spec_notes.specs.Notes.{sectionCount, longestNote}
 use Rattle.spec_notes.specs.Back.{stateBefore}
 use Rattle.spec_notes.specs.Frames.{nothing, sections, isWhole, areWhole, sectionBytes, framesOf}
 use Rattle.spec_notes.specs.Undo.{lastLength, hasLast, lastNote}
-use Rattle.spec_notes.specs.Undoes.{callBytes, backFrom, isDecoded, levelsFit, yieldsAgain, undoesNote, undoes}
+use Rattle.spec_notes.specs.Undoes.{callBytes, backFrom, isDecoded, levelsFit, threadsAsked, messagesAsked, yieldsAsked}
+use Rattle.spec_notes.specs.Undoes.{undoesNoteKept, undoesKept}
 use Rattle.code_notes.proofs.BeforeLength.{note-short}
 use Rattle.code_notes_back.specs.declared.state_back.Back.{Back}
 use Rattle.code_notes_back.specs.Restored.{backOf}
@@ -70,33 +71,30 @@ module _ (k : Kernel) (bytes : List ℕ) (sixteen : length bytes ≡ 16) (s : Lo
         f ∙ rw (y, noted-room (replicate longestNote 0) 0 (noteFor k bytes) room-for-any) in
         (rw (g, length-append, u) (omega arith), rw (g, u) (take-at (noteFor k bytes) _ _ refl), u)
 
-module _ (k : Kernel) (bytes : List ℕ) (end : Kernel) (note : List ℕ) where
-  pub levels-pass : levelsFit k ≡ false → yieldsAgain k bytes end note ≡ false
-  unfolding yieldsAgain
+module _ (t m : Bool) (k : Kernel) (bytes : List ℕ) (end : Kernel) (note : List ℕ) where
+  pub levels-pass : levelsFit k ≡ false → yieldsAsked t m k bytes end note ≡ false
+  unfolding yieldsAsked
   levels-pass e = rw e
 
   module _ (l : levelsFit k ≡ true) where
-    pub again-broken : keepsRules k ≡ false → false ≡ yieldsAgain k bytes end note
-    unfolding yieldsAgain
+    pub again-broken : keepsAsked t m k ≡ false → false ≡ yieldsAsked t m k bytes end note
+    unfolding yieldsAsked
     again-broken e = rw (l, e)
 
-    module _ (r : keepsRules k ≡ true) where
-      pub again-refused : eqb (numberOf k (callOf bytes)) 0 ≡ false → false ≡ yieldsAgain k bytes end note
-      unfolding yieldsAgain
+    module _ (r : keepsAsked t m k ≡ true) where
+      pub again-refused : eqb (numberOf k (callOf bytes)) 0 ≡ false → false ≡ yieldsAsked t m k bytes end note
+      unfolding yieldsAsked
       again-refused n = rw (l, r, n)
 
-      module _ (n : numberOf k (callOf bytes) ≡ 0) (next : Kernel) (e : next ≡ stateAfter k bytes) where
-        pub again-other : sameKernel next end ≡ false → false ≡ yieldsAgain k bytes end note
-        unfolding yieldsAgain
-        again-other h =
-            let o : sameKernel (stateAfter k bytes) end ≡ false = ap (λ (u : Kernel). sameKernel u end) (sym e) ∙ h in
-            rw (l, r, n, o)
+      module _ (n : numberOf k (callOf bytes) ≡ 0) where
+        pub again-other : false ≡ sameRow (noteFor k bytes) note → false ≡ yieldsAsked t m k bytes end note
+        unfolding yieldsAsked noteFor
+        again-other h = rw (l, r, n, sym h)
 
-        pub again-note : sameKernel next end ≡ true → sameRow (noteFor k bytes) note ≡ yieldsAgain k bytes end note
-        unfolding yieldsAgain noteFor
-        again-note h =
-            let o : sameKernel (stateAfter k bytes) end ≡ true = ap (λ (u : Kernel). sameKernel u end) (sym e) ∙ h in
-            rw (l, r, n, o, and-true)
+        pub again-same : true ≡ sameRow (noteFor k bytes) note → (next : Kernel) → next ≡ stateAfter k bytes
+            → sameAsked t m next end ≡ yieldsAsked t m k bytes end note
+        unfolding yieldsAsked noteFor
+        again-same h next e = ap (λ (u : Kernel). sameAsked t m u end) e ∙ rw (l, r, n, sym h, and-true)
 
 -- ---- the frame
 none-whole : areWhole sectionCount [] ≡ false
@@ -104,8 +102,8 @@ unfolding areWhole isWhole un
 none-whole = refl
 
 module _ (k : Kernel) (note : List ℕ) where
-  pub note-none : framesOf note ≡ nothing → undoesNote k note ≡ false
-  unfolding undoesNote
+  pub note-none : framesOf note ≡ nothing → undoesNoteKept k note ≡ false
+  unfolding undoesNoteKept
   note-none e = rw e
 
   module _ (x : List (List ℕ)) (e : framesOf note ≡ sections x) where
@@ -122,8 +120,11 @@ module _ (k : Kernel) (note : List ℕ) where
     unfolding backFrom
     framed-back = rw e
 
-    pub framed-undoes : undoesNote k note ≡ yieldsAgain (stateBefore (callOf (callBytes note)) k x) (callBytes note) k note
-    unfolding undoesNote backFrom
+    abbrev asked : Kernel → Bool
+    asked old = yieldsAsked (threadsAsked (callOf (callBytes note)) x) (messagesAsked x) old (callBytes note) k note
+
+    pub framed-undoes : undoesNoteKept k note ≡ asked (stateBefore (callOf (callBytes note)) k x)
+    unfolding undoesNoteKept backFrom
     framed-undoes = rw e
 
     -- what comes back of the note, by the two tests of the state before
@@ -133,16 +134,16 @@ module _ (k : Kernel) (note : List ℕ) where
 
       abbrev left : Logged
       left =
-          cond (undoesNote k note) (logged (answer 0 255 (backFrom k note .runner)) (backFrom k note) before)
+          cond (undoesNoteKept k note) (logged (answer 0 255 (backFrom k note .runner)) (backFrom k note) before)
           (logged (answer 15 255 (k .runner)) k used)
 
-      pub left-other : yieldsAgain old (callBytes note) k note ≡ false → logged (answer 15 255 (k .runner)) k used ≡ left
+      pub left-other : asked old ≡ false → logged (answer 15 255 (k .runner)) k used ≡ left
       left-other h = rw (framed-undoes, h)
 
       pub left-unfit : levelsFit old ≡ false → logged (answer 15 255 (k .runner)) k used ≡ left
-      left-unfit h = left-other (levels-pass old (callBytes note) k note h)
+      left-unfit h = left-other (levels-pass _ _ old (callBytes note) k note h)
 
-      pub left-back : yieldsAgain old (callBytes note) k note ≡ true → logged (answer 0 255 (old .runner)) old before ≡ left
+      pub left-back : asked old ≡ true → logged (answer 0 255 (old .runner)) old before ≡ left
       left-back h = rw (framed-undoes, h, framed-back)
 
 -- the two fields of what is read back
@@ -169,8 +170,8 @@ module _ (log : List ℕ) (used : ℕ) (h : hasLast log used ≡ true) where
   -- the note that the code lends is the last one
   pub undone-part : (k : Kernel) (n : ℕ) → n ≡ lastLength log used
       → (let note = take (used - (used - n)) (drop (used - n) log) in
-      cond (undoesNote k note) (logged (answer 0 255 (backFrom k note .runner)) (backFrom k note) (used - n))
+      cond (undoesNoteKept k note) (logged (answer 0 255 (backFrom k note .runner)) (backFrom k note) (used - n))
       (logged (answer 15 255 (k .runner)) k used))
       ≡ undoneKept k log used
-  unfolding undoneKept undoes
+  unfolding undoneKept undoesKept
   undone-part k n e = rw (e, last-part, h)

@@ -1,3 +1,4 @@
 pub mod Again
 pub mod Compared
 pub mod Turns
+pub mod Sections

@@ -1,7 +1,7 @@
 -- `code_answers_undo::yields_again` meets its contract: each way out says which part of "yields this end state and this note" fails.
 use Prim.Native.Nat.{ℕ, _≤_}
 use mathlib.Core.Path.{_≡_, sym, _∙_}
-use mathlib.Core.Bool.{true}
+use mathlib.Core.Bool.{Bool, true, false}
 use mathlib.Core.List.{List}
 use lib.ListN.{length, take}
 use lib.Seq.{length-take-le}
@@ -9,24 +9,24 @@ use borrow.Author.Tests.{not-true, not-false}
 use borrow.Author.Needs.{needs}
 use Rattle.base_bytes.specs.Bytes.{begins}
 use Rattle.spec_kernel.specs.declared.records.Kernel.{Kernel}
-use Rattle.spec_rules.specs.Tests.{keepsRules}
+use Rattle.spec_rules.specs.Tests.{keepsAsked}
 use Rattle.spec_calls.specs.Calls.{callOf}
 use Rattle.spec_refusals.specs.Refusals.{numberOf}
 use Rattle.spec_answers.specs.Logs.{stateAfter, noteFor}
 use Rattle.code_answers_undo.proofs.Again.{run-refused, run-accepted, run-next, note-stands}
-use Rattle.code_answers_undo.proofs.Again.{again-broken, again-refused, again-other, again-note}
+use Rattle.code_answers_undo.proofs.Again.{again-broken, again-refused, again-other, again-same}
 use Rattle.code_answers_undo.proofs.Compared.{begins-same, other-length}
 use Rattle.code_answers_undo.proofs.yields_again.Statement.{statement}
 use Rattle.code_answers_undo.proofs.yields_again.Tie as tie
 
-keeps-rules-requires : tie.Need-keeps-rules-requires
-keeps-rules-requires c κs = search needs
+keeps-asked-requires : tie.Need-keeps-asked-requires
+keeps-asked-requires c κs = search needs
 
 returns : tie.Need-returns
 returns c = λ l.
     let a = c .before .before .before .args in
-    let t = c .before .keeps-rules in
-    again-broken (a .old) (a .bytes) (a .end) (a .note .now) l (sym (t .ensures) ∙ not-true (t .result) (c .if1 .taken))
+    let t = c .before .keeps-asked in
+    again-broken (a .threads) (a .messages) (a .old) (a .bytes) (a .end) (a .note .now) l (sym (t .ensures) ∙ not-true (t .result) (c .if1 .taken))
 
 slice-aggregate-recorded : tie.Need-slice-aggregate-recorded
 slice-aggregate-recorded c = search needs
@@ -44,11 +44,17 @@ bytes₀ c = c .before .before .before .before .before .args .bytes
 abbrev end₀ : tie.After-recorded → Kernel
 end₀ c = c .before .before .before .before .before .args .end
 
+abbrev threads₀ : tie.After-recorded → Bool
+threads₀ c = c .before .before .before .before .before .args .threads
+
+abbrev messages₀ : tie.After-recorded → Bool
+messages₀ c = c .before .before .before .before .before .args .messages
+
 abbrev note₀ : tie.After-recorded → List ℕ
 note₀ c = c .before .before .before .before .before .args .note .now
 
-rules : (c : tie.After-recorded) → keepsRules (old₀ c) ≡ true
-rules c = let t = c .before .before .before .keeps-rules in sym (t .ensures) ∙ not-false (t .result) (c .before .before .if1 .left)
+rules : (c : tie.After-recorded) → keepsAsked (threads₀ c) (messages₀ c) (old₀ c) ≡ true
+rules c = let t = c .before .before .before .keeps-asked in sym (t .ensures) ∙ not-false (t .result) (c .before .before .if1 .left)
 
 sixteen : (c : tie.After-recorded) → length (bytes₀ c) ≡ 16
 sixteen c = c .before .before .before .before .before .good .1 .0 .1 .0 .1
@@ -56,11 +62,8 @@ sixteen c = c .before .before .before .before .before .good .1 .0 .1 .0 .1
 returns-2 : tie.Need-returns-2
 returns-2 c = λ l.
     let d : tie.After-recorded = c .before .before .before in
-    again-refused (old₀ d) (bytes₀ d) (end₀ d) (note₀ d) l (rules d)
+    again-refused (threads₀ d) (messages₀ d) (old₀ d) (bytes₀ d) (end₀ d) (note₀ d) l (rules d)
     (run-refused (old₀ d) (bytes₀ d) (sixteen d) _ (d .recorded .ensures .result) (c .if2 .taken))
-
-same-kernel-requires : tie.Need-same-kernel-requires
-same-kernel-requires c κs = search needs
 
 -- where it answers 0: it was accepted, the next state, and that the note stands in front
 ran : (c : tie.After-recorded) → c .recorded .result .answer .number ≡ 0
@@ -78,64 +81,40 @@ ran c z =
       w,
     )
 
--- the call that was run again, seen from the comparison of the states
-abbrev run-of : tie.After-same-kernel → tie.After-recorded
-run-of s = s .before .before .before .before .before
-
 returns-3 : tie.Need-returns-3
-returns-3 c = λ l.
-    let s : tie.After-same-kernel = c .before in
-    let d = run-of s in
-    let (n, e, _, _, _) = ran d (s .before .before .if2 .left) in
-    again-other (old₀ d) (bytes₀ d) (end₀ d) (note₀ d) l (rules d) n _ e
-    (sym (s .same-kernel .ensures .0) ∙ not-true (s .same-kernel .result) (c .if3 .taken))
-
-returns-4 : tie.Need-returns-4
-returns-4 c = λ l.
-    let s : tie.After-same-kernel = c .before .before in
-    let d = run-of s in
-    let (n, e, _, _, w) = ran d (s .before .before .if2 .left) in
-    other-length (noteFor (old₀ d) (bytes₀ d)) (note₀ d) (λ h. c .if4 .taken (w ∙ h))
-    ∙ again-note (old₀ d) (bytes₀ d) (end₀ d) (note₀ d) l (rules d) n _ e
-    (sym (s .same-kernel .ensures .0) ∙ not-false (s .same-kernel .result) (c .before .if3 .left))
+returns-3 c = λ l. ?
 
 array-share-prefix-again : tie.Need-array-share-prefix-again
-array-share-prefix-again c =
-    let s : tie.After-same-kernel = c .before .before in
-    ran (run-of s) (s .before .before .if2 .left) .2
+array-share-prefix-again c = ?
 
 slice-aggregate-same-bytes : tie.Need-slice-aggregate-same-bytes
-slice-aggregate-same-bytes c =
-    let s : tie.After-same-kernel = c .before .before .before in
-    sym (length-take-le _ _ (ran (run-of s) (s .before .before .if2 .left) .2))
+slice-aggregate-same-bytes c = ?
 
 same-bytes-requires : tie.Need-same-bytes-requires
 same-bytes-requires c κs = search needs
 
+returns-4 : tie.Need-returns-4
+returns-4 c = λ l. ?
+
+same-asked-requires : tie.Need-same-asked-requires
+same-asked-requires c κs = search needs
+
 returns-5 : tie.Need-returns-5
-returns-5 c = λ l.
-    let s : tie.After-same-kernel = c .before .before .before .before in
-    let d = run-of s in
-    let (n, e, _, t, w) = ran d (s .before .before .if2 .left) in
-    let note = noteFor (old₀ d) (bytes₀ d) in
-    let b : begins (take (d .recorded .result .used) (d .recorded .last .1 .1 .0)) (note₀ d) ≡ begins note (note₀ d) = rw t in
-    c .same-bytes .ensures ∙ b ∙ begins-same note (note₀ d) (sym w ∙ c .before .before .if4 .left)
-    ∙ again-note (old₀ d) (bytes₀ d) (end₀ d) (note₀ d) l (rules d) n _ e
-    (sym (s .same-kernel .ensures .0) ∙ not-false (s .same-kernel .result) (c .before .before .before .if3 .left))
+returns-5 c = λ l. ?
 
 pub yields-again-spec : {M : Type 1} → statement M
 yields-again-spec =
     tie.close
     (tie.spec
-    keeps-rules-requires
+    keeps-asked-requires
     returns
     slice-aggregate-recorded
     recorded-requires
     returns-2
-    same-kernel-requires
     returns-3
-    returns-4
     array-share-prefix-again
     slice-aggregate-same-bytes
     same-bytes-requires
+    returns-4
+    same-asked-requires
     returns-5)

@@ -1,0 +1,11 @@
+-- A section is empty exactly where its length is 0.
+use mathlib.Core.Path.{_≡_, refl}
+use mathlib.Core.List.{List, [], _∷_}
+use Prim.Native.Nat.{ℕ}
+use lib.Dec.{eqb}
+use lib.ListN.{length}
+use Rattle.base_queue.specs.Lists.{isEmpty}
+
+pub no-length : (l : List ℕ) → eqb (length l) 0 ≡ isEmpty l
+no-length [] = refl
+no-length (x ∷ l) = refl
