@@ -96,6 +96,11 @@ module _ (t m : Bool) (k : Kernel) (bytes : List ℕ) (end : Kernel) (note : Lis
         unfolding yieldsAsked noteFor
         again-same h next e = ap (λ (u : Kernel). sameAsked t m u end) e ∙ rw (l, r, n, sym h, and-true)
 
+-- by equals
+pub asked-by : {t t′ m m′ : Bool} {k k′ : Kernel} {bytes bytes′ : List ℕ} (end : Kernel) (note : List ℕ)
+    → t ≡ t′ → m ≡ m′ → k ≡ k′ → bytes ≡ bytes′ → yieldsAsked t m k bytes end note ≡ yieldsAsked t′ m′ k′ bytes′ end note
+asked-by end note a b c d = rw (a, b, c, d)
+
 -- ---- the frame
 none-whole : areWhole sectionCount [] ≡ false
 unfolding areWhole isWhole un
@@ -120,7 +125,7 @@ module _ (k : Kernel) (note : List ℕ) where
     unfolding backFrom
     framed-back = rw e
 
-    abbrev asked : Kernel → Bool
+    abbrev pub asked : Kernel → Bool
     asked old = yieldsAsked (threadsAsked (callOf (callBytes note)) x) (messagesAsked x) old (callBytes note) k note
 
     pub framed-undoes : undoesNoteKept k note ≡ asked (stateBefore (callOf (callBytes note)) k x)

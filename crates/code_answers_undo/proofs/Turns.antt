@@ -5,10 +5,12 @@ use mathlib.Core.List.{List}
 use native.Mathlib.Omega.{arith}
 use borrow.Author.Tests.{eq-eqb, ne-eqb}
 use Rattle.spec_kernel.specs.declared.records.Kernel.{Kernel}
+use Rattle.spec_notes.specs.Undoes.{undoesKept}
 use Rattle.spec_answers.specs.declared.Logged.{Logged}
 use Rattle.spec_answers.specs.declared.Reached.{Reached}
 use Rattle.spec_answers.specs.Steps.{answer}
-use Rattle.spec_answers.specs.Logs.{logged, reached, lastGiven, oneMore, undoneKept, undoneKeptMany}
+use Rattle.spec_answers.proofs.Undos.{led-back}
+use Rattle.spec_answers.specs.Logs.{logged, reached, lastGiven, oneMore, manyBy, undoneKept}
 
 -- what is reached, with i undone before
 abbrev pub behind : ℕ → Reached → Reached
@@ -31,10 +33,16 @@ behind-stop i x =
 
 -- what is to come of n undos where i are made
 abbrev pub left : ℕ → ℕ → Kernel → List ℕ → ℕ → Reached
-left n i k log used = behind i (undoneKeptMany (n - i) k log used)
+left n i k log used = behind i (manyBy undoneKept (n - i) k log used)
 
-pub begin : (n : ℕ) (k : Kernel) (log : List ℕ) (used : ℕ) → undoneKeptMany n k log used ≡ left n 0 k log used
-begin n k log used = let e : n - 0 ≡ n = omega arith in rw e (behind-none (undoneKeptMany n k log used))
+pub begin : (n : ℕ) (k : Kernel) (log : List ℕ) (used : ℕ) → manyBy undoneKept n k log used ≡ left n 0 k log used
+begin n k log used = let e : n - 0 ≡ n = omega arith in rw e (behind-none (manyBy undoneKept n k log used))
+
+-- an undo that answers 0 says who runs in the state that it gives
+pub led : (k : Kernel) (log : List ℕ) (used : ℕ) (r : Logged) → r ≡ undoneKept k log used → r .answer .number ≡ 0
+    → r ≡ logged (answer 0 255 (r .kernel .runner)) (r .kernel) (r .used)
+unfolding undoneKept
+led k log used r e z = led-back k log used (undoesKept k log used) r e z
 
 module _ (n i : ℕ) (k : Kernel) (log : List ℕ) (used : ℕ) where
   -- the next one, r, is made, or refused
@@ -43,7 +51,7 @@ module _ (n i : ℕ) (k : Kernel) (log : List ℕ) (used : ℕ) where
     one-less = omega arith
 
     pub turn : r .answer .number ≡ 0 → left n i k log used ≡ left n (i + 1) (r .kernel) log (r .used)
-    turn z = rw (one-less, ← e, eq-eqb (r .answer .number) 0 z) (behind-next i (undoneKeptMany (n - (i + 1)) (r .kernel) log (r .used)))
+    turn z = rw (one-less, ← e, eq-eqb (r .answer .number) 0 z) (behind-next i (manyBy undoneKept (n - (i + 1)) (r .kernel) log (r .used)))
 
     pub stop : (r .answer .number ≡ 0 → ⊥) → left n i k log used ≡ reached r i
     stop z = rw (one-less, ← e, ne-eqb (r .answer .number) 0 z) (behind-stop i r)

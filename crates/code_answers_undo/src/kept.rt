@@ -1,6 +1,6 @@
 // On a state that is known to keep its rules: a log's last note undone, and the last n. A state that an undo gives keeps them again.
 ghost use mathlib.Core.Path.{_≡_};
-ghost use Rattle.spec_answers.specs.Logs.{reached, undoneKeptMany};
+ghost use Rattle.spec_answers.specs.Logs.{reached, undoneKept, manyBy};
 ghost use Rattle.spec_answers.specs.Promises.{UndoneUntested};
 use crate::undo_note;
 use code_answers::refused;
@@ -37,7 +37,7 @@ pub fn reaching(l: Logged, undone: usize) -> Reached
 
 // The last n notes undone, one after the other, until an undo is refused.
 pub fn undo_many_kept(k: Kernel, log: &[u8], used: usize, n: usize) -> Reached
-    ensures { λ r. ⌜ r ≡ undoneKeptMany n k (now (log .entry)) used ⌝ }
+    ensures { λ r. ⌜ r ≡ manyBy undoneKept n k (now (log .entry)) used ⌝ }
 {
     let mut l = Logged {
         kernel: k,

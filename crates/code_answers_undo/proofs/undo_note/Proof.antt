@@ -10,14 +10,14 @@ use Rattle.spec_calls.specs.Calls.{callOf}
 use Rattle.spec_notes.specs.Notes.{sectionCount}
 use Rattle.spec_notes.specs.Back.{stateBefore}
 use Rattle.spec_notes.specs.Frames.{nothing, sections, sectionsAt, framesOf}
-use Rattle.spec_notes.specs.Undoes.{callBytes, levelsFit, yieldsAgain}
+use Rattle.spec_notes.specs.Undoes.{callBytes, levelsFit, threadsAsked, messagesAsked}
 use Rattle.code_notes_frame.specs.declared.frames.Decoded.{Decoded}
 use Rattle.code_notes_frame.specs.Meant.{partOf, meant}
 use Rattle.code_notes_back.specs.Restored.{backOf}
 use Rattle.code_notes_frame.proofs.Framing.{record-whole}
 use Rattle.spec_answers.specs.Steps.{answer}
 use Rattle.spec_answers.specs.Logs.{logged}
-use Rattle.code_answers_undo.proofs.Again.{note-none, framed-size, left-other, left-unfit, left-back, back-parts}
+use Rattle.code_answers_undo.proofs.Again.{note-none, framed-size, asked, asked-by, left-other, left-unfit, left-back, back-parts}
 use borrow.Author.Needs.{needs}
 use Rattle.code_answers_undo.proofs.undo_note.Statement.{statement}
 use Rattle.code_answers_undo.proofs.undo_note.Tie as tie
@@ -79,6 +79,10 @@ record-read c =
 abbrev framed-of : tie.After-state-before → tie.After-p
 framed-of c = c .before .before .before .before .before
 
+-- the call, as it is read
+call-read : (c : tie.After-state-before) → c .before .before .call-of .result ≡ callOf (callBytes (note₀ (framed-of c)))
+call-read c = let y = c .before .before in y .call-of .ensures ∙ ap callOf (record-read (y .before))
+
 state-read : (c : tie.After-state-before) → let k = old (framed-of c) in
     (c .state-before .result .fits ≡ levelsFit k) × (levelsFit k ≡ true → c .state-before .result .kernel ≡ k)
 state-read c =
@@ -86,26 +90,37 @@ state-read c =
     back-parts (callOf (callBytes (note₀ f))) (k₀ f) (parts f) (c .state-before .result)
     (c .state-before .ensures
     ∙ ap (λ (s : List ℕ). backOf (c .before .before .call-of .result) (k₀ f) (sectionsAt sectionCount s)) (c .before .part-of .ensures)
-    ∙ ap (λ (y : Call). backOf y (k₀ f) (parts f))
-    (c .before .before .call-of .ensures ∙ ap callOf (record-read (c .before .before .before))))
+    ∙ ap (λ (y : Call). backOf y (k₀ f) (parts f)) (call-read c))
 
--- and what running the call again finds
+-- and what running the call again finds, as far as the note asks for it
 abbrev read-of : tie.After-yields-again → tie.After-state-before
-read-of c = c .before .before .before .before
+read-of c = c .before .before .before .before .before .before
+
+threads-read : (c : tie.After-yields-again) → let f = framed-of (read-of c) in
+    c .before .before .threads-asked .result ≡ threadsAsked (callOf (callBytes (note₀ f))) (parts f)
+threads-read c =
+    let r = read-of c in
+    c .before .before .threads-asked .ensures
+    ∙ ap (λ (s : List ℕ). threadsAsked (r .before .before .call-of .result) (sectionsAt sectionCount s)) (r .before .part-of .ensures)
+    ∙ ap (λ (y : Call). threadsAsked y (parts (framed-of r))) (call-read r)
+
+messages-read : (c : tie.After-yields-again) → c .before .messages-asked .result ≡ messagesAsked (parts (framed-of (read-of c)))
+messages-read c =
+    c .before .messages-asked .ensures
+    ∙ ap (λ (s : List ℕ). messagesAsked (sectionsAt sectionCount s)) (read-of c .before .part-of .ensures)
 
 run-again : (c : tie.After-yields-again) → let f = framed-of (read-of c) in
     (read-of c .state-before .result .kernel ≡ old f)
-    × (c .yields-again .result ≡ yieldsAgain (old f) (callBytes (note₀ f)) (k₀ f) (note₀ f))
+    × (c .yields-again .result ≡ asked (k₀ f) (note₀ f) (parts f) (framed f) (old f))
 run-again c =
     let r = read-of c in
     let f = framed-of r in
     let b = r .before .before .before in
     let (fits, kernel) = state-read r in
-    let l = sym fits ∙ not-false (r .state-before .result .fits) (c .before .before .if1 .left) in (
+    let l = sym fits ∙ not-false (r .state-before .result .fits) (c .before .before .before .before .if1 .left) in (
       kernel l,
       c .yields-again .ensures (ap levelsFit (kernel l) ∙ l)
-          ∙ ap (λ (k : Kernel). yieldsAgain k (b .call-bytes .result) (k₀ f) (note₀ f)) (kernel l)
-          ∙ ap (λ (s : List ℕ). yieldsAgain (old f) s (k₀ f) (note₀ f)) (record-read b),
+          ∙ asked-by (k₀ f) (note₀ f) (threads-read c) (messages-read c) (kernel l) (record-read b),
     )
 
 refused-requires-2 : tie.Need-refused-requires-2
@@ -119,6 +134,12 @@ returns-2 c =
     c .refused2 .ensures
     ∙ left-unfit (a .k) (note₀ f) (parts f) (framed f) (a .before) (a .used)
     (sym (state-read r .0) ∙ not-true (r .state-before .result .fits) (c .before .if1 .taken))
+
+threads-asked-requires : tie.Need-threads-asked-requires
+threads-asked-requires c κs = search needs
+
+messages-asked-requires : tie.Need-messages-asked-requires
+messages-asked-requires c κs = search needs
 
 yields-again-requires : tie.Need-yields-again-requires
 yields-again-requires c κs = search needs
@@ -160,6 +181,8 @@ undo-note-spec =
     state-before-requires
     refused-requires-2
     returns-2
+    threads-asked-requires
+    messages-asked-requires
     yields-again-requires
     refused-requires-3
     returns-3

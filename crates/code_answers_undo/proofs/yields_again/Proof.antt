@@ -12,6 +12,7 @@ use Rattle.spec_kernel.specs.declared.records.Kernel.{Kernel}
 use Rattle.spec_rules.specs.Tests.{keepsAsked}
 use Rattle.spec_calls.specs.Calls.{callOf}
 use Rattle.spec_refusals.specs.Refusals.{numberOf}
+use Rattle.spec_notes.specs.Touched.{sameRow}
 use Rattle.spec_answers.specs.Logs.{stateAfter, noteFor}
 use Rattle.code_answers_undo.proofs.Again.{run-refused, run-accepted, run-next, note-stands}
 use Rattle.code_answers_undo.proofs.Again.{again-broken, again-refused, again-other, again-same}
@@ -82,25 +83,54 @@ ran c z =
     )
 
 returns-3 : tie.Need-returns-3
-returns-3 c = λ l. ?
+returns-3 c = λ l.
+    let d : tie.After-recorded = c .before .before .before .before in
+    let (n, _, _, _, w) = ran d (c .before .if2 .left) in
+    again-other (threads₀ d) (messages₀ d) (old₀ d) (bytes₀ d) (end₀ d) (note₀ d) l (rules d) n
+    (other-length (noteFor (old₀ d) (bytes₀ d)) (note₀ d) (λ h. c .if3 .taken (w ∙ h)))
 
 array-share-prefix-again : tie.Need-array-share-prefix-again
-array-share-prefix-again c = ?
+array-share-prefix-again c = ran (c .before .before .before .before) (c .before .if2 .left) .2
 
 slice-aggregate-same-bytes : tie.Need-slice-aggregate-same-bytes
-slice-aggregate-same-bytes c = ?
+slice-aggregate-same-bytes c = sym (length-take-le _ _ (ran (c .before .before .before .before .before) (c .before .before .if2 .left) .2))
 
 same-bytes-requires : tie.Need-same-bytes-requires
 same-bytes-requires c κs = search needs
 
+-- the call that was run again, seen from the comparison of the notes
+abbrev run-of : tie.After-same-bytes → tie.After-recorded
+run-of c = c .before .before .before .before .before .before
+
+-- which says whether its note is the one that was given
+compared : (c : tie.After-same-bytes)
+    → let d = run-of c in c .same-bytes .result ≡ sameRow (noteFor (old₀ d) (bytes₀ d)) (note₀ d)
+compared c =
+    let d = run-of c in
+    let (_, _, _, t, w) = ran d (c .before .before .before .if2 .left) in
+    let note = noteFor (old₀ d) (bytes₀ d) in
+    let b : begins (take (d .recorded .result .used) (d .recorded .last .1 .1 .0)) (note₀ d) ≡ begins note (note₀ d) = rw t in
+    c .same-bytes .ensures ∙ b ∙ begins-same note (note₀ d) (sym w ∙ c .before .before .if3 .left)
+
 returns-4 : tie.Need-returns-4
-returns-4 c = λ l. ?
+returns-4 c = λ l.
+    let s : tie.After-same-bytes = c .before in
+    let d = run-of s in
+    let (n, _, _, _, _) = ran d (s .before .before .before .if2 .left) in
+    again-other (threads₀ d) (messages₀ d) (old₀ d) (bytes₀ d) (end₀ d) (note₀ d) l (rules d) n
+    (sym (sym (compared s) ∙ not-true (s .same-bytes .result) (c .if4 .taken)))
 
 same-asked-requires : tie.Need-same-asked-requires
 same-asked-requires c κs = search needs
 
 returns-5 : tie.Need-returns-5
-returns-5 c = λ l. ?
+returns-5 c = λ l.
+    let s : tie.After-same-bytes = c .before .before .before in
+    let d = run-of s in
+    let (n, e, _, _, _) = ran d (s .before .before .before .if2 .left) in
+    c .same-asked .ensures
+    ∙ again-same (threads₀ d) (messages₀ d) (old₀ d) (bytes₀ d) (end₀ d) (note₀ d) l (rules d) n
+    (sym (sym (compared s) ∙ not-false (s .same-bytes .result) (c .before .before .if4 .left))) _ e
 
 pub yields-again-spec : {M : Type 1} → statement M
 yields-again-spec =

@@ -6,7 +6,7 @@ use borrow.Author.Needs.{needs}
 use borrow.Author.Tests.{not-true, not-false}
 use Rattle.spec_notes.specs.Within.{AreBytes}
 use Rattle.spec_notes.specs.Undo.{hasLast}
-use Rattle.spec_notes.specs.Undoes.{undoes}
+use Rattle.spec_notes.specs.Undoes.{undoesKept}
 use Rattle.spec_answers.specs.declared.Logged.{Logged}
 use Rattle.spec_answers.specs.Logs.{undoneKept}
 use Rattle.spec_answers.specs.Promises.{UndoneUntested}
@@ -36,7 +36,7 @@ refused-requires : tie.Need-refused-requires
 refused-requires c κs = search needs
 
 returns : tie.Need-returns
-unfolding undoneKept undoes
+unfolding undoneKept undoesKept
 returns c =
     let s = c .before .before .before in
     let a = s .before .args in

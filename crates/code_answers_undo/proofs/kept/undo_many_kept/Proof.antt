@@ -5,9 +5,8 @@ use native.Mathlib.Omega.{arith}
 use borrow.Author.Needs.{needs}
 use Rattle.spec_answers.specs.declared.Logged.{Logged}
 use Rattle.spec_answers.specs.Steps.{answer}
-use Rattle.spec_answers.specs.Logs.{logged, reached, undoneKeptMany}
-use Rattle.spec_answers.proofs.Undos.{led-back}
-use Rattle.code_answers_undo.proofs.Turns.{left, begin, turn, stop, end}
+use Rattle.spec_answers.specs.Logs.{logged, reached, undoneKept, manyBy}
+use Rattle.code_answers_undo.proofs.Turns.{left, begin, led, turn, stop, end}
 use Rattle.code_answers_undo.proofs.kept.undo_many_kept.Statement.{statement}
 use Rattle.code_answers_undo.proofs.kept.undo_many_kept.Tie as tie
 
@@ -15,7 +14,7 @@ use Rattle.code_answers_undo.proofs.kept.undo_many_kept.Tie as tie
 abbrev Inv-loop : tie.InvT-loop
 Inv-loop log used n l₀ i₀ l i =
     (i ≤ n) × (l ≡ logged (answer 0 255 (l .kernel .runner)) (l .kernel) (l .used))
-    × (undoneKeptMany n (l₀ .kernel) log (l₀ .used) ≡ left n i (l .kernel) log (l .used))
+    × (manyBy undoneKept n (l₀ .kernel) log (l₀ .used) ≡ left n i (l .kernel) log (l .used))
 
 abbrev μ-loop : tie.MeasureT-loop
 μ-loop log used n l₀ i₀ l i = n - i
@@ -51,7 +50,7 @@ loop-again c =
     let u = c .before .before .undo-kept in
     let h = c .before .before .before .before .loop-test .taken in (
       search needs,
-      led-back _ _ _ (u .result) (u .ensures .result) (c .if1 .left),
+      led _ _ _ (u .result) (u .ensures .result) (c .if1 .left),
       l .loop .inv .2 ∙ turn _ _ _ _ _ h (u .result) (u .ensures .result) (c .if1 .left),
     )
 
