@@ -1,7 +1,7 @@
 // The state rules of the whole state, as a test: one pass over each table of records, then one over each table of places.
 ghost use mathlib.Core.Path.{_≡_};
 ghost use Rattle.spec_rules.specs.Tests.{keepsRules};
-ghost use Rattle.code_rules.specs.Telling.{runnerBy};
+ghost use Rattle.code_rules.specs.Told.{runnerBy};
 use base_bits::sets;
 use spec_kernel::records::Kernel;
 
