@@ -33,7 +33,7 @@ use Rattle.code_rules_records.specs.Others.{Objects}
 use Rattle.code_rules.specs.declared.told.Semaphores.{Semaphores}
 use Rattle.code_rules.specs.declared.told.Threads.{Threads}
 use Rattle.code_rules.specs.declared.told.Messages.{Messages}
-use Rattle.code_rules.specs.Telling.{OfSemaphores, OfEvents, OfThreads, OfMessages, runnerBy}
+use Rattle.code_rules.specs.Told.{OfSemaphores, OfEvents, OfThreads, OfMessages, runnerBy}
 
 -- one test that fails
 pub fails : (n : ℕ) (tests : List Bool) → getD tests n true ≡ false → false ≡ allOf tests

@@ -3,7 +3,7 @@ ghost use mathlib.Core.Path.{_≡_};
 ghost use Rattle.spec_rules.specs.Tests.{keepsRules, ifAsked, keepsAsked};
 ghost use mathlib.Core.Bool.{_||_};
 ghost use Rattle.base_tables.specs.Taken.{isTable};
-ghost use Rattle.code_rules.specs.Telling.{runnerBy};
+ghost use Rattle.code_rules.specs.Told.{runnerBy};
 use base_bits::sets;
 use base_queue::CAPACITY;
 use base_queue::Queue;

@@ -1,7 +1,7 @@
 // One pass over each table of records: whether each keeps its rules, and what the tables of places and the runner are tested by.
 ghost use mathlib.Core.Path.{_≡_};
 ghost use mathlib.Core.Bool.{true, false, _&&_};
-ghost use Rattle.code_rules.specs.Telling.{OfSemaphores, OfEvents, OfThreads, OfMessages};
+ghost use Rattle.code_rules.specs.Told.{OfSemaphores, OfEvents, OfThreads, OfMessages};
 use base_bits::sets;
 use base_queue::CAPACITY;
 use code_kernel::conditions;
@@ -35,12 +35,14 @@ pub struct Messages {
     pub streams: [u32; CAPACITY],
 }
 
+// A pass goes on past a record that breaks its rules, so that no arms meet in it.
 fn both(a: bool, b: bool) -> bool
     ensures { λ r. ⌜ r ≡ (a && b) ⌝ }
 {
     if a { b } else { false }
 }
 
+// Which semaphores a thread may wait for.
 pub fn of_semaphores(semaphores: [Semaphore; sizes::SEMAPHORES]) -> Semaphores
     ensures { λ r. ⌜ OfSemaphores semaphores r ⌝ }
 {
@@ -56,7 +58,7 @@ pub fn of_semaphores(semaphores: [Semaphore; sizes::SEMAPHORES]) -> Semaphores
     Semaphores { kept, waited }
 }
 
-// The set of those that aren't TRUE.
+// Which events a thread may wait for: those that aren't TRUE.
 pub fn of_events(events: [Event; sizes::EVENTS], bits: u32) -> u64
     ensures { λ r. ⌜ OfEvents events bits r ⌝ }
 {
@@ -70,6 +72,7 @@ pub fn of_events(events: [Event; sizes::EVENTS], bits: u32) -> u64
     untrue
 }
 
+// Who belongs in the table of places and in the time queue, and who may run. `waited` and `untrue` are what the objects told.
 pub fn of_threads(threads: [Thread; sizes::THREADS], waited: u64, untrue: u64) -> Threads
     ensures { λ r. ⌜ OfThreads threads waited untrue r ⌝ }
 {
@@ -100,6 +103,7 @@ pub fn of_threads(threads: [Thread; sizes::THREADS], waited: u64, untrue: u64) -
     }
 }
 
+// Which messages belong in the channels.
 fn of_messages(
     messages: [Message; sizes::MESSAGES],
     threads: [Thread; sizes::THREADS],

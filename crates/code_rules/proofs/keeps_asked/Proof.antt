@@ -10,7 +10,7 @@ use Rattle.code_rules_records.proofs.Runs.{goes, ends}
 use Rattle.spec_rules.specs.Tests.{placesKept, timeKept, postedKept, threadsKept}
 use Rattle.spec_rules.specs.Tests.{semaphoresKept, messagesKept, runnerKept}
 use Rattle.spec_rules.specs.Tests.{ifAsked, keepsAsked}
-use Rattle.code_rules.specs.Telling.{runnerBy}
+use Rattle.code_rules.specs.Told.{runnerBy}
 use Rattle.code_rules.proofs.Parts.{fails, objects, semaphores-part, threads-part, messages-asked}
 use Rattle.code_rules.proofs.Parts.{places-part, time-part, posted-asked, runner-part}
 use Rattle.code_rules.proofs.keeps_asked.Statement.{statement}

@@ -7,7 +7,7 @@ use native.Mathlib.Omega.{arith}
 use lib.Dec.{eqb}
 use borrow.Author.Tests.{eq-eqb, ne-eqb}
 use borrow.Author.Needs.{needs}
-use Rattle.code_rules.specs.Telling.{runnerBy}
+use Rattle.code_rules.specs.Told.{runnerBy}
 use Rattle.code_rules.proofs.runner_kept.Statement.{statement}
 use Rattle.code_rules.proofs.runner_kept.Tie as tie
 

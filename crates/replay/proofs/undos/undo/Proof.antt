@@ -5,6 +5,7 @@ use native.Mathlib.Omega.{arith}
 use borrow.Author.Needs.{needs}
 use borrow.Author.Tests.{not-true, not-false}
 use Rattle.spec_rules.specs.Tests.{keepsRules}
+use Rattle.spec_rules.proofs.Exactly.{rules-mean}
 use Rattle.spec_notes.specs.Within.{AreBytes}
 use Rattle.spec_answers.specs.declared.Logged.{Logged}
 use Rattle.spec_answers.specs.Logs.{undone}
@@ -41,12 +42,12 @@ undo-kept-requires : tie.Need-undo-kept-requires
 undo-kept-requires c κs = search needs
 
 returns-2 : tie.Need-returns-2
-unfolding undone
 returns-2 c =
     let t : tie.After-keeps-rules = c .before .before in
     let good : keepsRules (t .before .before .args .k) ≡ true =
     sym (t .keeps-rules .ensures) ∙ not-false (t .keeps-rules .result) (c .before .if1 .left) in
-    promised (t .before) _ (rw good (c .undo-kept .ensures .result))
+    let s = t .before .before in
+    c .undo-kept .ensures .promised (rules-mean (s .args .k) (of-types (s .args .k) _ (s .good .0) .sized) good)
 
 pub undo-spec : {M : Type 1} → statement M
 undo-spec =

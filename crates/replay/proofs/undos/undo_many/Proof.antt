@@ -5,24 +5,28 @@ use native.Mathlib.Omega.{arith}
 use borrow.Author.Needs.{needs}
 use borrow.Author.Tests.{not-true, not-false}
 use Rattle.spec_rules.specs.Tests.{keepsRules}
+use Rattle.spec_rules.proofs.Exactly.{rules-mean}
 use Rattle.spec_notes.specs.Within.{AreBytes}
 use Rattle.spec_answers.specs.declared.Logged.{Logged}
 use Rattle.spec_answers.specs.declared.Reached.{Reached}
 use Rattle.spec_answers.specs.Logs.{reached, undoneMany}
 use Rattle.spec_answers.specs.Promises.{UndoneMany}
-use Rattle.spec_answers.proofs.ManyUndos.{undoes-many}
+use Rattle.spec_answers.proofs.ManyUndos.{many-kept, undoes-many}
 use Rattle.spec_answers.proofs.FromTypes.{of-types}
 use Rattle.replay.proofs.undos.undo_many.Statement.{statement}
 use Rattle.replay.proofs.undos.undo_many.Tie as tie
 
--- what is promised of the definition's result; each slice that is lent is known to hold bytes
+-- each slice that is lent is known to hold bytes
+bytes-of : (s : tie.After-shared-slice-known) → AreBytes (s .before .args .log .now)
+bytes-of s = λ i. omega (arith, s .shared-slice-known .given i)
+
+-- what is promised of the definition's result
 promised : (s : tie.After-shared-slice-known) (r : Reached)
     → (let a = s .before .args in r ≡ undoneMany (a .n) (a .k) (a .log .now) (a .used))
     → (let a = s .before .args in UndoneMany (a .n) (a .k) (a .log .now) (a .used) r)
 promised s r e =
     let a = s .before .args in
-    let b : AreBytes (a .log .now) = λ i. omega (arith, s .shared-slice-known .given i) in
-    rw e (undoes-many (a .n) (a .k) (a .log .now) (a .used) (of-types (a .k) _ (s .before .good .0)) b)
+    rw e (undoes-many (a .n) (a .k) (a .log .now) (a .used) (of-types (a .k) _ (s .before .good .0)) (bytes-of s))
 
 keeps-rules-requires : tie.Need-keeps-rules-requires
 keeps-rules-requires c κs = search needs
@@ -50,7 +54,11 @@ returns-2 c =
     let t : tie.After-keeps-rules = c .before .before in
     let good : keepsRules (t .before .before .args .k) ≡ true =
     sym (t .keeps-rules .ensures) ∙ not-false (t .keeps-rules .result) (c .before .if1 .left) in
-    promised (t .before) _ (rw good (c .undo-many-kept .ensures))
+    let s = t .before .before in
+    let a = s .args in
+    let T = of-types (a .k) _ (s .good .0) in
+    let kept = many-kept (a .log .now) (bytes-of (t .before)) (a .n) (a .k) (a .used) T (rules-mean (a .k) (T .sized) good) in
+    promised (t .before) _ (rw good (c .undo-many-kept .ensures ∙ sym kept))
 
 pub undo-many-spec : {M : Type 1} → statement M
 undo-many-spec =
