@@ -35,11 +35,7 @@ fn same_threads(a: [Thread; sizes::THREADS], b: [Thread; sizes::THREADS]) -> boo
 }
 
 // Where they are asked for; so too messages and queues.
-fn threads_if(
-    asked: bool,
-    a: [Thread; sizes::THREADS],
-    b: [Thread; sizes::THREADS],
-) -> bool
+fn threads_if(asked: bool, a: [Thread; sizes::THREADS], b: [Thread; sizes::THREADS]) -> bool
     ensures { λ r. ⌜ r ≡ ifAsked asked (sameAll sameThread a b) ⌝ }
 {
     if !asked {
@@ -93,11 +89,7 @@ fn same_messages(a: [Message; sizes::MESSAGES], b: [Message; sizes::MESSAGES]) -
     true
 }
 
-fn messages_if(
-    asked: bool,
-    a: [Message; sizes::MESSAGES],
-    b: [Message; sizes::MESSAGES],
-) -> bool
+fn messages_if(asked: bool, a: [Message; sizes::MESSAGES], b: [Message; sizes::MESSAGES]) -> bool
     ensures { λ r. ⌜ r ≡ ifAsked asked (sameAll sameMessage a b) ⌝ }
 {
     if !asked {

@@ -105,9 +105,9 @@ module _ (k u : Kernel) {threads messages : Bool} (T : threads ≡ false → thr
       let (records, (_, (_, (posts, (places, (time, (posted, _))))))) = simp (and-true, and-eq-true-iff) at (kernel-same u) in
       rw (
         still threads (sameAll sameThread (k .threads) (u .threads)) _ records
-        (λ h. ap (λ (p : Threads). sameAll sameThread (p .records) (u .threads)) (T h)),
+            (λ h. ap (λ (p : Threads). sameAll sameThread (p .records) (u .threads)) (T h)),
         still messages (sameAll sameMessage (k .messages) (u .messages)) _ posts
-        (λ h. ap (λ (p : Posts). sameAll sameMessage (p .records) (u .messages)) (M h)),
+            (λ h. ap (λ (p : Posts). sameAll sameMessage (p .records) (u .messages)) (M h)),
         still threads (sameQueue (k .places) (u .places)) _ places (λ h. ap (λ (p : Threads). sameQueue (p .places) (u .places)) (T h)),
         still threads (sameQueue (k .time) (u .time)) _ time (λ h. ap (λ (p : Threads). sameQueue (p .time) (u .time)) (T h)),
         still messages (sameQueue (k .posted) (u .posted)) _ posted (λ h. ap (λ (p : Posts). sameQueue (p .posted) (u .posted)) (M h)),
