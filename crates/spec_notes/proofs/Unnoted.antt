@@ -1,5 +1,5 @@
--- What a note doesn't speak of is as it is: with an empty section, and no ageing, the part before is the part after. So where two end states
--- lead back by one note, such a part is the same in both, and in the state before.
+-- What a note doesn't speak of is as it is: with an empty section, and no ageing, the part before is the part after. So where two end
+-- states lead back by one note, such a part is the same in both, and in the state before.
 use Prim.Native.Nat.{ℕ, zero, suc, _≤_}
 use mathlib.Core.Path.{_≡_, refl, sym, ap, _∙_}
 use mathlib.Core.Bool.{Bool, true, false}

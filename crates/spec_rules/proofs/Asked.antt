@@ -10,7 +10,8 @@ use Rattle.spec_kernel.specs.Places.{hasHome, isQueued}
 use Rattle.spec_moves.specs.declared.parts.Threads.{Threads}
 use Rattle.spec_moves.specs.declared.parts.Posts.{Posts}
 use Rattle.spec_moves.specs.Standing.{threadsOf, postsOf}
-use Rattle.spec_rules.specs.Tests.{allOf, isTicking, inRank, inTime, inStream, messageKept, placesKept, timeKept, postedKept, messagesKept}
+use Rattle.spec_rules.specs.Tests.{allOf, isTicking, inRank, inTime, inStream, messageKept}
+use Rattle.spec_rules.specs.Tests.{placesKept, timeKept, postedKept, messagesKept}
 use Rattle.spec_rules.specs.Tests.{keepsRules, ifAsked, keepsAsked}
 
 -- a test that isn't asked for, and passed on another value, passes where what it looks at is the same

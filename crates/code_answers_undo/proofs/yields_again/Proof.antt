@@ -27,7 +27,8 @@ returns : tie.Need-returns
 returns c = λ l.
     let a = c .before .before .before .args in
     let t = c .before .keeps-asked in
-    again-broken (a .threads) (a .messages) (a .old) (a .bytes) (a .end) (a .note .now) l (sym (t .ensures) ∙ not-true (t .result) (c .if1 .taken))
+    again-broken (a .threads) (a .messages) (a .old) (a .bytes) (a .end) (a .note .now) l
+    (sym (t .ensures) ∙ not-true (t .result) (c .if1 .taken))
 
 slice-aggregate-recorded : tie.Need-slice-aggregate-recorded
 slice-aggregate-recorded c = search needs

@@ -96,7 +96,8 @@ posted-told c =
     let s = semaphores-at (threads-at m) in
     let M = m .messages-if .ensures .0 in
     c .table-kept3 .ensures
-    ∙ posted-asked (kernel s) (m .messages-if .result) (m .before .either .result) M (threads-asked s) (messages-are s) (m .before .either .ensures)
+    ∙ posted-asked (kernel s) (m .messages-if .result) (m .before .either .result) M (threads-asked s) (messages-are s)
+    (m .before .either .ensures)
 
 of-semaphores-requires : tie.Need-of-semaphores-requires
 of-semaphores-requires c κs = search needs
