@@ -113,6 +113,37 @@ int rounds_back(void)
     return 0;
 }
 
+/* Every note undone; returns how many there were. */
+static unsigned long undo_notes(struct kernel *k, struct log *log)
+{
+    unsigned long undone = 0;
+    for (; log->used > 0; undone++)
+        undo_last(k, log);
+    return undone;
+}
+
+/* Undoes every note of a run by this replay's own undo, which trusts them, again and again from the same end and log. */
+int rounds_undo(void)
+{
+    static struct kernel end, fresh;
+    unsigned long undone = 0, left = 0, ended = 0;
+    int count = read_round();
+    make_fresh(&fresh);
+    end = fresh;
+    for (int i = 0; i < count; i++)
+        call_noted(&end, records[i], &notes_log);
+    size_t used = notes_log.used;
+    for (int round = 0; round < ROUNDS; round++) {
+        kernel = end;
+        undone += undo_notes(&kernel, &notes_log);
+        left += notes_log.used;
+        ended += (unsigned long)states_are_equal(&kernel, &fresh);
+        notes_log.used = used;
+    }
+    printf("records %d rounds %d undone %lu left %lu fresh %lu\n", count, ROUNDS, undone, left, ended);
+    return 0;
+}
+
 int notes(void)
 {
     uint8_t record[RECORD];
@@ -147,8 +178,7 @@ int back(void)
         }
     }
     unsigned long bytes = notes_log.used;
-    while (notes_log.used > 0)
-        undo_last(&kernel, &notes_log);
+    undo_notes(&kernel, &notes_log);
     make_fresh(&before);
     int fresh = states_are_equal(&kernel, &before);
     printf("records %lu accepted %lu bytes %lu %s\n", count, accepted, bytes, fresh ? "fresh" : "not fresh");
@@ -160,7 +190,7 @@ static const struct {
     int (*run)(void);
 } modes[] = {
     { "printed", 0, printed }, { "notes", 0, notes }, { "back", 0, back }, { "rounds", 0, rounds },
-    { "rounds", "plain", rounds_plain }, { "rounds", "back", rounds_back },
+    { "rounds", "plain", rounds_plain }, { "rounds", "back", rounds_back }, { "rounds", "undo", rounds_undo },
 };
 
 /* 2 where there is no such mode. */
@@ -172,7 +202,7 @@ static int run_mode(int argc, char **argv)
         if (argc == (modes[i].second ? 3 : 2) && strcmp(argv[1], modes[i].name) == 0
             && (argc == 2 || strcmp(argv[2], modes[i].second) == 0))
             return modes[i].run();
-    fprintf(stderr, "usage: second printed | both LINESFILE | notes | back | rounds [plain | back]  < records\n");
+    fprintf(stderr, "usage: second printed | both LINESFILE | notes | back | rounds [plain | back | undo]  < records\n");
     return 2;
 }
 

@@ -20,5 +20,6 @@ int back(void);
 int rounds(void);
 int rounds_plain(void);
 int rounds_back(void);
+int rounds_undo(void);
 
 #endif
