@@ -29,7 +29,7 @@ use Rattle.code_notes_back.specs.declared.state_back.Back.{Back}
 use Rattle.code_notes_back.specs.Restored.{backOf}
 use Rattle.spec_answers.specs.declared.Logged.{Logged}
 use Rattle.spec_answers.specs.Steps.{answer}
-use Rattle.spec_answers.specs.Logs.{logged, stateAfter, noteFor, recorded, logAfter, undone}
+use Rattle.spec_answers.specs.Logs.{logged, stateAfter, noteFor, recorded, logAfter, undoneKept}
 
 -- The call run again on a log of 2,048 bytes, which has room for any note: s is what comes back.
 module _ (k : Kernel) (bytes : List ℕ) (sixteen : length bytes ≡ 16) (s : Logged)
@@ -167,10 +167,10 @@ module _ (log : List ℕ) (used : ℕ) (h : hasLast log used ≡ true) where
       rw (h, e)
 
   -- the note that the code lends is the last one
-  pub undone-part : (k : Kernel) (n : ℕ) → keepsRules k ≡ true → n ≡ lastLength log used
+  pub undone-part : (k : Kernel) (n : ℕ) → n ≡ lastLength log used
       → (let note = take (used - (used - n)) (drop (used - n) log) in
       cond (undoesNote k note) (logged (answer 0 255 (backFrom k note .runner)) (backFrom k note) (used - n))
       (logged (answer 15 255 (k .runner)) k used))
-      ≡ undone k log used
-  unfolding undone undoes
-  undone-part k n r e = rw (e, last-part, r, h)
+      ≡ undoneKept k log used
+  unfolding undoneKept undoes
+  undone-part k n e = rw (e, last-part, h)

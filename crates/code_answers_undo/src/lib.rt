@@ -17,6 +17,8 @@ use spec_answers::Answer;
 use spec_answers::Logged;
 use spec_kernel::records::Kernel;
 
+pub mod kept;
+
 // Whether the state, with the call run again, yields the end state and the note.
 fn yields_again(old: Kernel, bytes: [u8; 16], end: Kernel, note: &[u8]) -> bool
     ensures { λ r. ⌜ (levelsFit old ≡ true → r ≡ yieldsAgain old bytes end (now (note .entry))) ⌝ }

@@ -1,6 +1,7 @@
 -- Demand 3 over many: after any calls, and any mix of calls and undos, the run follows the calls that count, and its notes lead back.
 use Prim.Native.Nat.{ℕ, zero, suc, _+_}
-use mathlib.Core.Path.{_≡_, refl, sym}
+use mathlib.Core.Path.{_≡_, refl, sym, ap}
+use mathlib.Core.Bool.{true}
 use mathlib.Core.List.{List, [], _∷_, _++_, map, append-nil}
 use native.Mathlib.Omega.{arith}
 use lib.Dec.{eqb}
@@ -9,14 +10,17 @@ use lib.Seq.{length-take-le}
 use borrow.Author.Tests.{eqb-true}
 use borrow.Table.Steps.{cases}
 use Rattle.spec_kernel.specs.declared.records.Kernel.{Kernel}
+use Rattle.spec_rules.proofs.Exactly.{rules-hold}
 use Rattle.spec_notes.proofs.Undoing.{state-found}
 use Rattle.spec_answers.specs.Steps.{called}
-use Rattle.spec_answers.specs.Logs.{noteFor}
+use Rattle.spec_answers.specs.declared.Logged.{Logged}
+use Rattle.spec_answers.specs.Logs.{noteFor, undone, reached, oneMore, undoneKeptMany, undoneMany}
 use Rattle.spec_answers.specs.Runs.{Undamaged, AreRecords, replayed, Accepts, notes, backTimes, Run, Follows, Step, call, undo}
 use Rattle.spec_answers.specs.Runs.{AreSteps, afterAll, counted, afterCalls, acceptedOf, acceptedFrom}
 use Rattle.spec_answers.specs.Runs.{ledBack, stoodAt, undoneTimes}
-use Rattle.spec_answers.specs.Promises.{RunsFollow, LogLeadsBack, LedBetween, NotesLeadBack, AnyMix}
+use Rattle.spec_answers.specs.Promises.{RunsFollow, LogLeadsBack, LogLeadsBackAtOnce, LedBetween, NotesLeadBack, AnyMix}
 use Rattle.spec_answers.proofs.Following.{accepted-yields, replayed-kept, call-follows, run-kept}
+use Rattle.spec_answers.proofs.ManyUndos.{many-next}
 use Rattle.spec_answers.proofs.Following.{undo-given, undo-follows, any-undo-follows}
 
 -- at its start a run follows no calls
@@ -48,6 +52,17 @@ module _ (start : Run) (gone : List (List ℕ)) where
     times-undone calls (bytes ∷ []) F = undo-given start gone K F
     times-undone calls (bytes ∷ next ∷ later) F = times-undone calls (next ∷ later) (undo-follows start gone K F)
 
+    -- and so it does in one call
+    pub many-undone : {r : Run} (calls later : List (List ℕ)) → Follows start gone (later ++ calls) r
+        → undoneKeptMany (length later) (r .kernel) (r .log) (r .used) ≡ reached (ledBack (stoodAt start gone calls (r .log))) (length later)
+    many-undone calls [] F = rw (F .state, F .ends)
+    many-undone {r} calls (bytes ∷ later) F =
+        let U = run-kept start gone K F in
+        let z : eqb (undone (r .kernel) (r .log) (r .used) .answer .number) 0 ≡ true =
+        ap (λ (x : Logged). eqb (x .answer .number) 0) (undo-given start gone K F) in
+        rw (many-next (r .kernel) (r .log) (r .used) (U .types) (U .rules) (length later), z)
+        (ap oneMore (many-undone calls later (undo-follows start gone K F)))
+
 pub runs-follow : RunsFollow
 unfolding RunsFollow
 runs-follow start records b = calls-follow start [] records b (begun start)
@@ -62,6 +77,16 @@ log-leads-back start records j U b h =
     let l = acceptedOf start records in
     let F = rw (← take-append-drop j l) at (runs-follow start records b) in
     rw (length-take-le j l h) at (times-undone start [] U (drop j l) (take j l) F)
+
+pub log-leads-back-at-once : LogLeadsBackAtOnce
+unfolding LogLeadsBackAtOnce RunsFollow undoneMany
+log-leads-back-at-once start records j U b h =
+    let l = acceptedOf start records in
+    let r : Run = afterCalls start records in
+    let F = rw (← take-append-drop j l) at (runs-follow start records b) in
+    let K = run-kept start [] U F in
+    rw (rules-hold (r .kernel) (K .types .sized) (K .rules))
+    (rw (length-take-le j l h) at (many-undone start [] U (drop j l) (take j l) F))
 
 pub led-between : LedBetween
 unfolding LedBetween RunsFollow

@@ -4,6 +4,7 @@ pub mod RunnerStays
 pub mod Kept
 pub mod WithLogs
 pub mod Undos
+pub mod ManyUndos
 pub mod Following
 pub mod LeadsBack
 pub mod SamplesHold

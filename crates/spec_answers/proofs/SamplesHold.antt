@@ -36,7 +36,7 @@ use Rattle.spec_notes.specs.Back.{eventsBefore, readMessages, messagesBefore, l
 use Rattle.spec_notes.specs.Undo.{lastLength, hasLast, lastNote}
 use Rattle.spec_notes.specs.Same.{sameQueue, sameNumbers, sameKernel}
 use Rattle.spec_notes.specs.Undoes.{callBytes, backFrom, levelsFit, yieldsAgain, undoesNote, undoes}
-use Rattle.spec_answers.specs.Logs.{noteFor, recorded, logAfter, calledWith, logCalled, undone}
+use Rattle.spec_answers.specs.Logs.{noteFor, recorded, logAfter, calledWith, logCalled, undoneKept, undone}
 use Rattle.spec_answers.specs.Samples.{all, samples}
 
 -- Unfolded is every definition that the runs come through, crate by crate: with one shut, the computation stands still there.
@@ -84,5 +84,5 @@ unfolding
     sameQueue sameNumbers sameKernel
     callBytes backFrom levelsFit yieldsAgain undoesNote undoes
     -- spec_answers
-    noteFor recorded logAfter calledWith logCalled undone
+    noteFor recorded logAfter calledWith logCalled undoneKept undone
 samples-hold = refl

@@ -20,26 +20,26 @@ use Rattle.spec_notes.proofs.Undoing.{state-found, last-sizes, yields-last, yie
 use Rattle.spec_answers.specs.declared.Answer.{Answer}
 use Rattle.spec_answers.specs.declared.Logged.{Logged}
 use Rattle.spec_answers.specs.Steps.{answer}
-use Rattle.spec_answers.specs.Logs.{logged, backAt, undone}
+use Rattle.spec_answers.specs.Logs.{logged, backAt, undoneKept, undone}
 use Rattle.spec_answers.specs.Promises.{BrokenIsRefused, BrokenIsLeft, UndoneExactly, UndoneIsThat, UndoRefused, NothingToUndo}
-use Rattle.spec_answers.specs.Promises.{Undone, OneUndo}
+use Rattle.spec_answers.specs.Promises.{RulesAreKept, Undone, UndoneUntested, OneUndo}
 
 module _ (k : Kernel) (log : List ℕ) (used : ℕ) where
   -- the last note is undone, or it isn't, or the state breaks a rule
-  one-of-three : (P : Logged → Type 0)
+  pub one-of-three : (P : Logged → Type 0)
       → (keepsRules k ≡ true → undoes k log used ≡ true
       → P (logged (answer 0 255 (backAt k log used .runner)) (backAt k log used) (used - lastLength log used)))
       → (keepsRules k ≡ true → undoes k log used ≡ false → P (logged (answer 15 255 (k .runner)) k used))
       → (keepsRules k ≡ false → P (logged (answer 14 255 255) k used))
       → P (undone k log used)
-  unfolding undone
+  unfolding undone undoneKept
   one-of-three P a f b =
       cases (keepsRules k)
       (λ e. cases (undoes k log used) (λ u. rw (e, u) (a e u)) (λ u. rw (e, u) (f e u))) (λ e. rw e (b e))
 
   -- where it isn't, on a state that keeps its rules
   pub not-undone : keepsRules k ≡ true → undoes k log used ≡ false → undone k log used ≡ logged (answer 15 255 (k .runner)) k used
-  unfolding undone
+  unfolding undone undoneKept
   not-undone e u = rw (e, u)
 
   -- a last note is there only where something is used, and no more than the log has
@@ -52,7 +52,7 @@ module _ (k : Kernel) (log : List ℕ) (used : ℕ) where
 
   -- a state and a call that yield the last note with this state are found
   pub undone-is-that : UndoneIsThat k log used (undone k log used)
-  unfolding UndoneIsThat undone
+  unfolding UndoneIsThat undone undoneKept
   undone-is-that before bytes Y =
       let (Z, R, _, _) = yields-kept Y in
       let s : backAt k log used ≡ before = state-found k (lastNote log used) Y in
@@ -60,6 +60,11 @@ module _ (k : Kernel) (log : List ℕ) (used : ℕ) where
       rw (rules-hold k Z R, yields-undoes log used Y, s) (refl, refl, rw n (omega arith))
 
   module _ (T : OfTypes k) where
+    -- where it keeps its rules no test is needed
+    pub undone-kept : Rules k → undone k log used ≡ undoneKept k log used
+    unfolding undone
+    undone-kept R = rw (rules-hold k (T .sized) R)
+
     broken-is-refused : BrokenIsRefused k (undone k log used)
     unfolding BrokenIsRefused
     broken-is-refused =
@@ -103,6 +108,15 @@ module _ (k : Kernel) (log : List ℕ) (used : ℕ) where
           undo-refused R
           (λ before bytes Y. let (a, b) = last-there (yields-last log used Y) in ⊎-elim (λ z. omega arith) (λ z. omega arith) empty)
 
+      -- the earlier state was the one before an accepted call, and such a one keeps the rules
+      pub rules-are-kept : RulesAreKept k (undone k log used)
+      unfolding RulesAreKept
+      rules-are-kept R =
+          one-of-three (λ x. OfTypes (x .kernel) × Rules (x .kernel))
+          (λ e u. let (_, _, Y) = was-yielded e u in
+          rw (state-found k (lastNote log used) Y) (record { sized = Y .sized; within = Y .inside }, Y .rules))
+          (λ _ _. (T, R)) (λ _. (T, R))
+
 -- ---- the promises
 pub undoes-so : (k : Kernel) (log : List ℕ) (used : ℕ) → OfTypes k → AreBytes log → Undone k log used (undone k log used)
 undoes-so k log used T B =
@@ -114,7 +128,18 @@ undoes-so k log used T B =
       undoneIsThat = undone-is-that k log used;
       undoRefused = undo-refused k log used T B;
       nothingToUndo = nothing-to-undo k log used T B;
+      rulesAreKept = rules-are-kept k log used T B;
     }
+
+pub undoes-untested : (k : Kernel) (log : List ℕ) (used : ℕ) → OfTypes k → AreBytes log
+    → UndoneUntested k log used (undoneKept k log used)
+undoes-untested k log used T B =
+    record { result = refl; promised = λ R. rw (undone-kept k log used T R) at (undoes-so k log used T B) }
+
+-- so a state that keeps the rules is undone to one that does
+pub rules-go-back : {k : Kernel} {log : List ℕ} {used : ℕ} {r : Logged} → UndoneUntested k log used r → Rules k → Rules (r .kernel)
+unfolding RulesAreKept
+rules-go-back U R = U .promised R .rulesAreKept R .1
 
 pub one-undo : OneUndo
 unfolding OneUndo

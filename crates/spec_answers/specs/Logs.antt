@@ -1,5 +1,5 @@
--- A call with a lent log, and the undo of the last note: what comes back, the next state, the used length, and the log.
-use Prim.Native.Nat.{ℕ, _+_, _-_}
+-- A call with a lent log, and the undo of the last note or of many: what comes back, the next state, the used length, and the log.
+use Prim.Native.Nat.{ℕ, zero, suc, _+_, _-_}
 use mathlib.Core.Bool.{Bool, not, cond}
 use mathlib.Core.List.{List, [], _∷_, _++_}
 use lib.Dec.{eqb}
@@ -15,6 +15,7 @@ use Rattle.spec_notes.specs.Undo.{lastLength, lastNote}
 use Rattle.spec_notes.specs.Undoes.{backFrom, undoes}
 use Rattle.spec_answers.specs.declared.Answer.{Answer}
 use Rattle.spec_answers.specs.declared.Logged.{Logged}
+use Rattle.spec_answers.specs.declared.Reached.{Reached}
 use Rattle.spec_answers.specs.Steps.{answer, nextState}
 
 abbrev pub logged : Answer → Kernel → ℕ → Logged
@@ -67,11 +68,40 @@ numbersOf k bytes log used =
 abbrev pub backAt : Kernel → List ℕ → ℕ → Kernel
 backAt k log used = backFrom k (lastNote log used)
 
--- Undone, value 255: the earlier state, who ran then, and what was used of the log before the note; else all stays [01, answers 5 to 8].
-unfoldable pub undone : Kernel → List ℕ → ℕ → Logged
-undone k log used =
-    cond (keepsRules k)
-    (cond (undoes k log used)
+-- On a state that keeps its rules. Undone, value 255: the earlier state, who ran then, and what was used of the log before the note; else
+-- all stays [01, answers 5 to 8].
+unfoldable pub undoneKept : Kernel → List ℕ → ℕ → Logged
+undoneKept k log used =
+    cond (undoes k log used)
     (logged (answer 0 255 (backAt k log used .runner)) (backAt k log used) (used - lastLength log used))
-    (logged (answer 15 255 (k .runner)) k used))
-    (logged (answer 14 255 255) k used)
+    (logged (answer 15 255 (k .runner)) k used)
+
+-- on any state
+unfoldable pub undone : Kernel → List ℕ → ℕ → Logged
+undone k log used = cond (keepsRules k) (undoneKept k log used) (logged (answer 14 255 255) k used)
+
+-- ---- many undos in one call
+-- what the last of them gave, and how many notes were undone
+abbrev pub reached : Logged → ℕ → Reached
+reached r n = record { answer = r .answer; kernel = r .kernel; used = r .used; undone = n }
+
+abbrev pub lastGiven : Reached → Logged
+lastGiven r = logged (r .answer) (r .kernel) (r .used)
+
+-- the same, and one more before it
+abbrev pub oneMore : Reached → Reached
+oneMore r = reached (lastGiven r) (suc (r .undone))
+
+-- On a state that keeps its rules: one undo after the other until n are made or one is refused. Of none, nothing is refused: 0, value 255,
+-- and all stays.
+abbrev pub undoneKeptMany : ℕ → Kernel → List ℕ → ℕ → Reached
+undoneKeptMany zero k log used = reached (logged (answer 0 255 (k .runner)) k used) 0
+undoneKeptMany (suc n) k log used =
+    let r = undoneKept k log used in
+    let rest = undoneKeptMany n (r .kernel) log (r .used) in
+    cond (eqb (r .answer .number) 0) (oneMore rest) (reached r 0)
+
+-- on any state: where it breaks a rule, 14 and none undone
+unfoldable pub undoneMany : ℕ → Kernel → List ℕ → ℕ → Reached
+undoneMany n k log used =
+    cond (keepsRules k) (undoneKeptMany n k log used) (reached (logged (answer 14 255 255) k used) 0)

@@ -1,7 +1,8 @@
--- What the user asked, over the definitions. A call, the part that it wrote, and an undo have a record each: what is promised of whatever
--- comes back, a named type for each sentence; the public function's contract is that record. Then the promises over many calls and undos.
+-- What the user asked, over the definitions. A call, the part that it wrote, an undo, and many in one call have a record each: what is
+-- promised of whatever comes back, a named type for each sentence; the public function's contract is that record. Then the promises over
+-- many calls and undos.
 -- Each has its proof in a file beside this one. What is given is a value of its type (OfTypes, IsRecord, AreBytes) and nothing more.
-use Prim.Native.Nat.{ℕ, _+_, _≤_, _<_}
+use Prim.Native.Nat.{ℕ, suc, _+_, _≤_, _<_}
 use mathlib.Core.Path.{_≡_}
 use mathlib.Core.Bool.{Bool, true, false}
 use mathlib.Core.List.{List, [], _++_}
@@ -19,8 +20,10 @@ use Rattle.spec_notes.specs.Within.{OfTypes}
 use Rattle.spec_notes.specs.Counts.{Differ, mostBytes}
 use Rattle.spec_notes.specs.Undo.{lastNote, Yields}
 use Rattle.spec_answers.specs.declared.Logged.{Logged}
+use Rattle.spec_answers.specs.declared.Reached.{Reached}
 use Rattle.spec_answers.specs.Steps.{answer, called}
-use Rattle.spec_answers.specs.Logs.{logged, noteFor, recorded, logAfter, calledWith, logCalled, partCalled, numbersOf, undone}
+use Rattle.spec_answers.specs.Logs.{logged, noteFor, recorded, logAfter, calledWith, logCalled, partCalled, numbersOf}
+use Rattle.spec_answers.specs.Logs.{undoneKept, undone, reached, lastGiven, undoneMany}
 use Rattle.spec_answers.specs.Runs.{Undamaged, AreRecords, replayed, notes, backTimes, Run, Follows, Step, AreSteps, afterAll}
 use Rattle.spec_answers.specs.Runs.{counted, afterCalls, acceptedOf, acceptedFrom, ledBack, stoodAt, undoneTimes}
 
@@ -59,7 +62,7 @@ RefusalChangesNothing k log used r log′ =
 unfoldable pub KindDoes : Kernel → List ℕ → Logged → Type 0
 KindDoes k bytes r = r .answer .number ≡ 0 → lawOf k (callOf bytes) (r .answer .value) (withRunner (k .runner) (r .kernel))
 
--- The rules are kept by every call, accepted or refused, and every field stays within its type.
+-- The rules are kept by every call and every undo, accepted or refused, and every field stays within its type.
 unfoldable pub RulesAreKept : Kernel → Logged → Type 0
 RulesAreKept k r = Rules k → OfTypes (r .kernel) × Rules (r .kernel)
 
@@ -159,6 +162,41 @@ pub record Undone (k : Kernel) (log : List ℕ) (used : ℕ) (r : Logged) : Type
   pub undoneIsThat : UndoneIsThat k log used r
   pub undoRefused : UndoRefused k log used r
   pub nothingToUndo : NothingToUndo k log used r
+  pub rulesAreKept : RulesAreKept k r
+
+-- The same undo without the test of the rules, as a run of undos needs it: each state that an undo gives keeps them again.
+pub record UndoneUntested (k : Kernel) (log : List ℕ) (used : ℕ) (r : Logged) : Type 0 where
+  pub result : r ≡ undoneKept k log used
+  pub promised : Rules k → Undone k log used r
+
+-- ---- Demand 3: the last n notes undone in one call, on any state with any log. It is n single undos, one after the other, up to the first
+-- that is refused; `undoneTimes j` is what the last of j single ones gives.
+-- A state that breaks a rule is left as it is, and no note is undone.
+unfoldable pub BrokenUndoesNone : Kernel → ℕ → Reached → Type 0
+BrokenUndoesNone k used r = (Rules k → ⊥) → r ≡ reached (logged (answer 14 255 255) k used) 0
+
+-- Of the single undos as many as it says answer 0.
+unfoldable pub EachIsUndone : Run → Reached → Type 0
+EachIsUndone start r = (i : ℕ) → i < r .undone → undoneTimes (suc i) start .answer .number ≡ 0
+
+-- It answers 0 only where all n are undone, and gives what the last of them gives.
+unfoldable pub AllAreUndone : ℕ → Run → Reached → Type 0
+AllAreUndone n start r = Rules (start .kernel) → r .answer .number ≡ 0 → r ≡ reached (undoneTimes n start) n
+
+-- Else it is 15, fewer than n are undone, and it gives what the next one gives, which is refused.
+unfoldable pub StopsAtRefusal : ℕ → Run → Reached → Type 0
+StopsAtRefusal n start r =
+    Rules (start .kernel) → (r .answer .number ≡ 0 → ⊥)
+    → (r .answer .number ≡ 15) × (r .undone < n) × (r ≡ reached (undoneTimes (suc (r .undone)) start) (r .undone))
+
+pub record UndoneMany (n : ℕ) (k : Kernel) (log : List ℕ) (used : ℕ) (r : Reached) : Type 0 where
+  pub result : r ≡ undoneMany n k log used
+  pub brokenIsRefused : BrokenIsRefused k (lastGiven r)
+  pub brokenUndoesNone : BrokenUndoesNone k used r
+  pub eachIsUndone : EachIsUndone (record { kernel = k; log = log; used = used }) r
+  pub allAreUndone : AllAreUndone n (record { kernel = k; log = log; used = used }) r
+  pub stopsAtRefusal : StopsAtRefusal n (record { kernel = k; log = log; used = used }) r
+  pub rulesAreKept : RulesAreKept k (lastGiven r)
 
 -- ---- Two results that a contract allows are equal, and so are the two logs [01, promises 2].
 unfoldable pub OneResult : Type 0
@@ -172,6 +210,10 @@ OnePart = (k : Kernel) (bytes log : List ℕ) (used : ℕ) (p q : List ℕ) → 
 
 unfoldable pub OneUndo : Type 0
 OneUndo = (k : Kernel) (log : List ℕ) (used : ℕ) (r s : Logged) → Undone k log used r → Undone k log used s → r ≡ s
+
+unfoldable pub OneReached : Type 0
+OneReached =
+    (n : ℕ) (k : Kernel) (log : List ℕ) (used : ℕ) (r s : Reached) → UndoneMany n k log used r → UndoneMany n k log used s → r ≡ s
 
 -- ---- Where runs begin: the fresh state keeps the rules, and each field its type [01, modelled 6].
 unfoldable pub FreshIsUndamaged : Type 0
@@ -198,6 +240,14 @@ LogLeadsBack =
     → j ≤ length (acceptedOf start records)
     → (let r = afterCalls start records in
     undoneTimes j r ≡ ledBack (stoodAt start [] (drop j (acceptedOf start records)) (r .log)))
+
+-- In one call too, which then says that j were undone.
+unfoldable pub LogLeadsBackAtOnce : Type 0
+LogLeadsBackAtOnce =
+    (start : Run) (records : List (List ℕ)) (j : ℕ) → Undamaged (start .kernel) → AreRecords records
+    → j ≤ length (acceptedOf start records)
+    → (let r = afterCalls start records in
+    undoneMany j (r .kernel) (r .log) (r .used) ≡ reached (ledBack (stoodAt start [] (drop j (acceptedOf start records)) (r .log))) j)
 
 -- The same, said of the run as it stood between two calls: to undo as many notes as of the later ones were accepted leads there.
 unfoldable pub LedBetween : Type 0

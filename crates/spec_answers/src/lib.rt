@@ -15,3 +15,11 @@ pub struct Logged {
     pub answer: Answer,
     pub used: usize,
 }
+
+// Many undos in one call: what the last of them gave, and how many notes were undone.
+pub struct Reached {
+    pub kernel: Kernel,
+    pub answer: Answer,
+    pub used: usize,
+    pub undone: usize,
+}

@@ -49,9 +49,10 @@ returns-2 : tie.Need-returns-2
 returns-2 c =
     let a = c .before .before .before .before .before .before .before .args in
     let w = c .before .before .before .before .called in
-    let e : w .result .used ≡ calledWith (a .k) (a .bytes) (a .log .now) (a .used) .used = ap (λ (x : Logged). x .used) (w .ensures .result) in
-    (rw (w .ensures .written, e, part-between (a .k) (a .bytes) (a .log .now) (a .used)) (appends (a .k) (a .bytes) (a .log .now) (a .used)),
-    λ _. refl)
+    let e : w .result .used ≡ calledWith (a .k) (a .bytes) (a .log .now) (a .used) .used = ap (λ (x : Logged). x .used) (w .ensures .result) in (
+      rw (w .ensures .written, e, part-between (a .k) (a .bytes) (a .log .now) (a .used)) (appends (a .k) (a .bytes) (a .log .now) (a .used)),
+      λ _. refl,
+    )
 
 pub append-spec : {M : Type 1} → statement M
 append-spec =

@@ -1,18 +1,16 @@
+-- `replay::undos::undo` meets its contract: what comes back is the definition's, and of that everything is proved in spec_answers.
 use mathlib.Core.Path.{_≡_, sym, _∙_}
 use mathlib.Core.Bool.{true, false}
+use native.Mathlib.Omega.{arith}
+use borrow.Author.Needs.{needs}
 use borrow.Author.Tests.{not-true, not-false}
 use Rattle.spec_rules.specs.Tests.{keepsRules}
-use Rattle.spec_notes.specs.Undo.{hasLast}
-use Rattle.spec_notes.specs.Undoes.{undoes}
+use Rattle.spec_notes.specs.Within.{AreBytes}
 use Rattle.spec_answers.specs.declared.Logged.{Logged}
 use Rattle.spec_answers.specs.Logs.{undone}
 use Rattle.spec_answers.specs.Promises.{Undone}
 use Rattle.spec_answers.proofs.Undos.{undoes-so}
 use Rattle.spec_answers.proofs.FromTypes.{of-types}
-use Rattle.spec_notes.specs.Within.{AreBytes}
-use native.Mathlib.Omega.{arith}
-use Rattle.code_answers_undo.proofs.Again.{last-within, undone-part}
-use borrow.Author.Needs.{needs}
 use Rattle.replay.proofs.undos.undo.Statement.{statement}
 use Rattle.replay.proofs.undos.undo.Tie as tie
 
@@ -34,65 +32,21 @@ refused-requires c κs = search needs
 returns : tie.Need-returns
 unfolding undone
 returns c =
-    let a = c .before .before .before .before .args in
-    let t = c .before .before .keeps-rules in
-    let broken : keepsRules (a .k) ≡ false = sym (t .ensures) ∙ not-true (t .result) (c .before .if1 .taken) in
-    promised (c .before .before .before) _ (rw broken (c .refused .ensures))
+    let t : tie.After-keeps-rules = c .before .before in
+    let broken : keepsRules (t .before .before .args .k) ≡ false =
+    sym (t .keeps-rules .ensures) ∙ not-true (t .keeps-rules .result) (c .before .if1 .taken) in
+    promised (t .before) _ (rw broken (c .refused .ensures))
 
-has-last-requires : tie.Need-has-last-requires
-has-last-requires c κs = search needs
-
-refused-requires-2 : tie.Need-refused-requires-2
-refused-requires-2 c κs = search needs
+undo-kept-requires : tie.Need-undo-kept-requires
+undo-kept-requires c κs = search needs
 
 returns-2 : tie.Need-returns-2
-unfolding undone undoes
+unfolding undone
 returns-2 c =
-    let a = c .before .before .before .before .before .before .args in
-    let r : keepsRules (a .k) ≡ true =
-    sym (c .before .before .before .before .keeps-rules .ensures)
-    ∙ not-false (c .before .before .before .before .keeps-rules .result) (c .before .before .before .if1 .left) in
-    let t = c .before .before .has-last in
-    let none : hasLast (a .log .now) (a .used) ≡ false = sym (t .ensures) ∙ not-true (t .result) (c .before .if2 .taken) in
-    promised (c .before .before .before .before .before) _ (rw (r, none) (c .refused2 .ensures))
-
-last-length-requires : tie.Need-last-length-requires
-last-length-requires c κs = search needs
-
-sub-before : tie.Need-sub-before
-sub-before c =
-    let a = c .before .before .before .before .before .before .args in
-    let t = c .before .before .has-last in
-    let has : hasLast (a .log .now) (a .used) ≡ true = sym (t .ensures) ∙ not-false (t .result) (c .before .if2 .left) in
-    rw (c .last-length .ensures) (last-within (a .log .now) (a .used) has .0)
-
-sub-undo-note : tie.Need-sub-undo-note
-sub-undo-note c = search needs
-
-part-undo-note-start : tie.Need-part-undo-note-start
-part-undo-note-start c = search needs
-
-part-undo-note-end : tie.Need-part-undo-note-end
-part-undo-note-end c =
-    let a = c .before .before .before .before .before .before .args in
-    let t = c .before .before .has-last in
-    let has : hasLast (a .log .now) (a .used) ≡ true = sym (t .ensures) ∙ not-false (t .result) (c .before .if2 .left) in
-    last-within (a .log .now) (a .used) has .1
-
-undo-note-requires : tie.Need-undo-note-requires
-undo-note-requires c κs = search needs
-
-returns-3 : tie.Need-returns-3
-returns-3 c =
-    let a = c .before .before .before .before .before .before .before .before .args in
-    let r : keepsRules (a .k) ≡ true =
-    sym (c .before .before .before .before .before .before .keeps-rules .ensures)
-    ∙ not-false (c .before .before .before .before .before .before .keeps-rules .result)
-    (c .before .before .before .before .before .if1 .left) in
-    let t = c .before .before .before .before .has-last in
-    let has : hasLast (a .log .now) (a .used) ≡ true = sym (t .ensures) ∙ not-false (t .result) (c .before .before .before .if2 .left) in
-    promised (c .before .before .before .before .before .before .before) _
-    (c .undo-note .ensures ∙ undone-part (a .log .now) (a .used) has (a .k) _ r (c .before .before .last-length .ensures))
+    let t : tie.After-keeps-rules = c .before .before in
+    let good : keepsRules (t .before .before .args .k) ≡ true =
+    sym (t .keeps-rules .ensures) ∙ not-false (t .keeps-rules .result) (c .before .if1 .left) in
+    promised (t .before) _ (rw good (c .undo-kept .ensures .result))
 
 pub undo-spec : {M : Type 1} → statement M
 undo-spec =
@@ -101,13 +55,5 @@ undo-spec =
     keeps-rules-requires
     refused-requires
     returns
-    has-last-requires
-    refused-requires-2
-    returns-2
-    last-length-requires
-    sub-before
-    sub-undo-note
-    part-undo-note-start
-    part-undo-note-end
-    undo-note-requires
-    returns-3)
+    undo-kept-requires
+    returns-2)
