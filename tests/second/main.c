@@ -6,7 +6,7 @@
 
 #include "modes.h"
 
-enum { ROUND_RECORDS = 4096, ROUNDS = 256, ROUNDS_BACK = 16, BUFFER = 1 << 16 };
+enum { ROUND_RECORDS = 4096, ROUNDS = 256, ROUNDS_UNDO = 64, BUFFER = 1 << 16 };
 
 static struct kernel kernel; /* too large for some stacks */
 static struct log notes_log;
@@ -86,33 +86,6 @@ int rounds_plain(void)
     return 0;
 }
 
-int rounds_back(void)
-{
-    unsigned long accepted = 0;
-    int count = read_round();
-    struct kernel *before = malloc(ROUND_RECORDS * sizeof *before);
-    if (before == NULL) {
-        perror("memory");
-        return 2;
-    }
-    for (int round = 0; round < ROUNDS_BACK; round++) {
-        int kept = 0;
-        make_fresh(&kernel);
-        for (int i = 0; i < count; i++) {
-            before[kept] = kernel; /* here a way back is a copy */
-            if (call_kept(&kernel, records[i]).number == 0) {
-                accepted++;
-                kept++;
-            }
-        }
-        while (kept > 0)
-            kernel = before[--kept];
-    }
-    free(before);
-    printf("records %d rounds %d accepted %lu\n", count, ROUNDS_BACK, accepted);
-    return 0;
-}
-
 /* Every note undone; returns how many there were. */
 static unsigned long undo_notes(struct kernel *k, struct log *log)
 {
@@ -133,14 +106,14 @@ int rounds_undo(void)
     for (int i = 0; i < count; i++)
         call_noted(&end, records[i], &notes_log);
     size_t used = notes_log.used;
-    for (int round = 0; round < ROUNDS; round++) {
+    for (int round = 0; round < ROUNDS_UNDO; round++) {
         kernel = end;
         undone += undo_notes(&kernel, &notes_log);
         left += notes_log.used;
         ended += (unsigned long)states_are_equal(&kernel, &fresh);
         notes_log.used = used;
     }
-    printf("records %d rounds %d undone %lu left %lu fresh %lu\n", count, ROUNDS, undone, left, ended);
+    printf("records %d rounds %d undone %lu left %lu fresh %lu\n", count, ROUNDS_UNDO, undone, left, ended);
     return 0;
 }
 
@@ -190,7 +163,7 @@ static const struct {
     int (*run)(void);
 } modes[] = {
     { "printed", 0, printed }, { "notes", 0, notes }, { "back", 0, back }, { "rounds", 0, rounds },
-    { "rounds", "plain", rounds_plain }, { "rounds", "back", rounds_back }, { "rounds", "undo", rounds_undo },
+    { "rounds", "plain", rounds_plain }, { "rounds", "undo", rounds_undo },
 };
 
 /* 2 where there is no such mode. */
@@ -202,7 +175,7 @@ static int run_mode(int argc, char **argv)
         if (argc == (modes[i].second ? 3 : 2) && strcmp(argv[1], modes[i].name) == 0
             && (argc == 2 || strcmp(argv[2], modes[i].second) == 0))
             return modes[i].run();
-    fprintf(stderr, "usage: second printed | both LINESFILE | notes | back | rounds [plain | back | undo]  < records\n");
+    fprintf(stderr, "usage: second printed | both LINESFILE | notes | back | rounds [plain | undo]  < records\n");
     return 2;
 }
 

@@ -1,6 +1,7 @@
-// A program for timing the way back: at most 4,096 records from standard input, run once from fresh with all notes in one log, and no line
-// for a call; then 256 times, each time from that end, every note undone. It prints how many records there are, and of all rounds the
-// undos, the bytes of notes that were left, and how many rounds ended in the fresh state.
+// A program for timing the way back. The first byte of standard input says which undo: `s` for single public ones, `r` for a run of them.
+// Behind it come at most 4,096 records, which are run once from fresh with all notes in one log, and no line for a call; then 64 times, each
+// time from that end, every note is undone. It prints how many records there are, and of all rounds the undos, the bytes of notes that were
+// left, and how many rounds ended in the fresh state.
 ghost use Rattle.spec_rules.specs.Rules.{Rules};
 ghost use Rattle.spec_answers.specs.Promises.{Undone};
 use replay::undos;
@@ -39,12 +40,15 @@ fn forward(s: &[u8], log: &mut [u8; 1048576]) -> Run
     }
 }
 
-// The undo that is timed.
-fn one_back(k: Kernel, log: &[u8], used: usize) -> Logged
+// The undo that is timed: a single public one, which tests the state first, or one in a run, whose states are known to keep the rules.
+fn one_back(single: bool, k: Kernel, log: &[u8], used: usize) -> Logged
     requires { ⌜ Rules k ⌝ }
     ensures { λ r. ⌜ Undone k (now (log .entry)) used r ⌝ }
 {
-    undos::undo(k, log, used)
+    if single {
+        return undos::undo(k, log, used);
+    }
+    replay::undo_kept(k, log, used)
 }
 
 // One where the state is the fresh one.
@@ -57,14 +61,14 @@ fn one_if_fresh(k: Kernel) -> u64 {
 }
 
 // Every note undone, until an undo is refused; there are no more notes than records.
-fn round(end: Kernel, log: &[u8], used: usize) -> Total
+fn round(single: bool, end: Kernel, log: &[u8], used: usize) -> Total
     requires { ⌜ Rules end ⌝ }
 {
     let mut k = end;
     let mut left = used;
     let mut undone: u64 = 0;
     while undone < 4096 {
-        let l = one_back(k, log, left);
+        let l = one_back(single, k, log, left);
         if l.answer.number != 0 {
             break;
         }
@@ -80,7 +84,7 @@ fn round(end: Kernel, log: &[u8], used: usize) -> Total
 }
 
 // All of them, from the same end and the same log.
-fn all_rounds(end: Kernel, log: &[u8; 1048576], used: usize) -> Total
+fn all_rounds(single: bool, end: Kernel, log: &[u8; 1048576], used: usize) -> Total
     requires { ⌜ Rules end ⌝ }
 {
     let mut total = Total {
@@ -89,8 +93,8 @@ fn all_rounds(end: Kernel, log: &[u8; 1048576], used: usize) -> Total
         fresh: 0,
     };
     let mut turn: u64 = 0;
-    while turn < 256 {
-        let r = round(end, log, used);
+    while turn < 64 {
+        let r = round(single, end, log, used);
         total = Total {
             undone: std::num::wrapping_add_u64(total.undone, r.undone),
             left: std::num::wrapping_add_u64(total.left, r.left),
@@ -105,7 +109,7 @@ fn all_rounds(end: Kernel, log: &[u8; 1048576], used: usize) -> Total
 fn finished(records: u64, total: Total) {
     io::write_all(1, b"records ");
     io::print_decimal(1, records);
-    io::write_all(1, b" rounds 256 undone ");
+    io::write_all(1, b" rounds 64 undone ");
     io::print_decimal(1, total.undone);
     io::write_all(1, b" left ");
     io::print_decimal(1, total.left);
@@ -116,9 +120,12 @@ fn finished(records: u64, total: Total) {
 
 fn main() {
     let mut log = [0u8; 1048576];
+    let mut way = [0u8; 1];
+    io::read_full(0, &mut way);
     let mut input = io::large_buffer();
     let n = io::read_full(0, &mut input);
     let run = forward(&input[..n], &mut log);
     let used = run.used;
-    finished((n / 16) as u64, all_rounds(run.kernel, &log, used))
+    let total = all_rounds(way[0] == b's', run.kernel, &log, used);
+    finished((n / 16) as u64, total)
 }

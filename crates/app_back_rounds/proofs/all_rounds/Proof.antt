@@ -4,10 +4,10 @@ use Rattle.app_back_rounds.proofs.all_rounds.Statement.{statement}
 use Rattle.app_back_rounds.proofs.all_rounds.Tie as tie
 
 abbrev Inv-loop : tie.InvT-loop
-Inv-loop end log used total₀ turn₀ total turn = turn ≤ 256
+Inv-loop single end log used total₀ turn₀ total turn = turn ≤ 64
 
 abbrev μ-loop : tie.MeasureT-loop
-μ-loop end log used total₀ turn₀ total turn = 256 - turn
+μ-loop single end log used total₀ turn₀ total turn = 64 - turn
 
 loop-holds : tie.Need-loop-holds Inv-loop μ-loop
 loop-holds c = search needs

@@ -1,26 +1,15 @@
-use Prim.Native.Nat.{ℕ, _≤_, _-_}
-use mathlib.Core.Path.{_≡_}
-use mathlib.Core.List.{List}
+use Prim.Native.Nat.{_≤_, _-_}
 use borrow.Author.Needs.{needs}
-use Rattle.spec_kernel.specs.declared.records.Kernel.{Kernel}
 use Rattle.spec_rules.specs.Rules.{Rules}
-use Rattle.spec_answers.specs.declared.Logged.{Logged}
-use Rattle.spec_answers.specs.Promises.{Undone, UndoneExactly, UndoneIsThat}
+use Rattle.spec_answers.specs.Promises.{RulesAreKept}
 use Rattle.app_back_rounds.proofs.round.Statement.{statement}
 use Rattle.app_back_rounds.proofs.round.Tie as tie
 
--- what an undo leads back to keeps the rules
-rules-go-back : {k : Kernel} {log : List ℕ} {used : ℕ} {r : Logged} → Undone k log used r → r .answer .number ≡ 0 → Rules (r .kernel)
-unfolding UndoneExactly UndoneIsThat
-rules-go-back U n =
-    let (before, bytes, Y) = U .undoneExactly .0 n in
-    rw (U .undoneIsThat before bytes Y .1) (Y .rules)
-
 abbrev Inv-loop : tie.InvT-loop
-Inv-loop log used k₀ left₀ undone₀ k left undone = (undone ≤ 4096) × Rules k
+Inv-loop single log used k₀ left₀ undone₀ k left undone = (undone ≤ 4096) × Rules k
 
 abbrev μ-loop : tie.MeasureT-loop
-μ-loop log used k₀ left₀ undone₀ k left undone = 4096 - undone
+μ-loop single log used k₀ left₀ undone₀ k left undone = 4096 - undone
 
 loop-holds : tie.Need-loop-holds Inv-loop μ-loop
 loop-holds c = (search needs, c .before .pre)
@@ -35,7 +24,10 @@ loop-less : tie.Need-loop-less Inv-loop μ-loop
 loop-less c = search needs
 
 loop-again : tie.Need-loop-again Inv-loop μ-loop
-loop-again c = (search needs, rules-go-back (c .before .before .before .one-back .ensures) (search needs))
+unfolding RulesAreKept
+loop-again c =
+    let u = c .before .before .before in
+    (search needs, u .one-back .ensures .rulesAreKept (u .before .before .loop .inv .1) .1)
 
 one-if-fresh-requires : tie.Need-one-if-fresh-requires Inv-loop μ-loop
 one-if-fresh-requires c κs = search needs
