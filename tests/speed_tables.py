@@ -6,8 +6,8 @@ import statistics
 import subprocess
 import sys
 
-# What is timed: its key, whether it is the proved one, the program or the mode of the second replay, and its input. Those with one
-# name of a line must print the same line.
+# What is timed: its key, whether it is proved, the program or the mode of the second replay, its input, and the name of the line that it
+# prints: those with one name must print the same.
 TIMED = [
     ('call', True, 'app_rounds', 'log', 'forwards'),
     ('second call', False, 'rounds', 'log', 'forwards'),
@@ -82,20 +82,24 @@ def note_lengths(log):
         end -= length
 
 
+def kinds():
+    """Each kind, and its number with its line of text, which stands behind its row in the table of kinds."""
+    with open(KINDS, encoding='utf8') as table:
+        return [(int(kind), kind + ' ' + line) for kind, line in re.findall(r'^ +Row\(.*\), // ([0-9]+): (.*)$', table.read(), re.M)]
+
+
 def print_lengths(proved, work, seeds):
     lengths = {}
     for seed in range(1, seeds + 1):
         for kind, length in note_lengths(timed(proved + 'app_logged', '%s/log%d' % (work, seed))[1]):
             lengths.setdefault(kind, []).append(length)
-    with open(KINDS, encoding='utf8') as table:
-        rows = [(int(kind), kind + ' ' + line) for kind, line in re.findall(r'^ +Row\(.*\), // ([0-9]+): (.*)$', table.read(), re.M)]
     print('\n| bytes of a note | notes | mean | least | most |\n|---|---|---|---|---|')
-    for name, of in [('all kinds', sum(lengths.values(), []))] + [(name, lengths.get(kind, [])) for kind, name in rows]:
+    for name, of in [('all kinds', sum(lengths.values(), []))] + [(name, lengths.get(kind, [])) for kind, name in kinds()]:
         print('| %s | %d | %s |' % (name, len(of), '%.1f | %d | %d' % (sum(of) / len(of), min(of), max(of)) if of else '| |'))
 
 
 work, seeds, runs, places = sys.argv[1], int(sys.argv[2]), int(sys.argv[3]), sys.argv[4:]
-print('mixed logs of 4096 records: %d, %d runs each, alternately; medians of the processor time, and the least and the most' % (seeds, runs))
+print('mixed logs of 4096 records: %d, %d runs each, alternately; processor time, medians and the least to the most' % (seeds, runs))
 for i in range(0, len(places), 3):
     print_times(places[i], measured(places[i + 1], places[i + 2], work, seeds, runs))
 print_lengths(places[1], work, seeds)
