@@ -135,5 +135,10 @@ rounds=$("$work/quick" rounds < "$work/round")
 [ "${rounds% bytes *}" = "$("$work/quick" rounds plain < "$work/round")" ] || fail "rounds plain: $rounds"
 echo "$rounds"
 "$work/careful" rounds < "$work/samples/printed"
-"$work/quick" rounds back < "$work/mixed.1"
+# All notes of a round are undone, 64 times, each time to the fresh state.
+notes=$("$work/quick" back < "$work/round" | sed 's/.* accepted \([0-9]*\) .*/\1/')
+undone=$("$work/quick" rounds undo < "$work/round")
+[ "$undone" = "${rounds%% rounds *} rounds 64 undone $((64 * notes)) left 0 fresh 64" ] || fail "rounds undo: $undone"
+echo "$undone"
+"$work/careful" rounds undo < "$work/samples/printed"
 echo "second: all checks passed"

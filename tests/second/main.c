@@ -6,7 +6,7 @@
 
 #include "modes.h"
 
-enum { ROUND_RECORDS = 4096, ROUNDS = 256, ROUNDS_BACK = 16, BUFFER = 1 << 16 };
+enum { ROUND_RECORDS = 4096, ROUNDS = 256, ROUNDS_UNDO = 64, BUFFER = 1 << 16 };
 
 static struct kernel kernel; /* too large for some stacks */
 static struct log notes_log;
@@ -86,30 +86,34 @@ int rounds_plain(void)
     return 0;
 }
 
-int rounds_back(void)
+/* Every note undone; returns how many there were. */
+static unsigned long undo_notes(struct kernel *k, struct log *log)
 {
-    unsigned long accepted = 0;
+    unsigned long undone = 0;
+    for (; log->used > 0; undone++)
+        undo_last(k, log);
+    return undone;
+}
+
+/* Undoes every note of a run by this replay's own undo, which trusts them, again and again from the same end and log. */
+int rounds_undo(void)
+{
+    static struct kernel end, fresh;
+    unsigned long undone = 0, left = 0, ended = 0;
     int count = read_round();
-    struct kernel *before = malloc(ROUND_RECORDS * sizeof *before);
-    if (before == NULL) {
-        perror("memory");
-        return 2;
+    make_fresh(&fresh);
+    end = fresh;
+    for (int i = 0; i < count; i++)
+        call_noted(&end, records[i], &notes_log);
+    size_t used = notes_log.used;
+    for (int round = 0; round < ROUNDS_UNDO; round++) {
+        kernel = end;
+        undone += undo_notes(&kernel, &notes_log);
+        left += notes_log.used;
+        ended += (unsigned long)states_are_equal(&kernel, &fresh);
+        notes_log.used = used;
     }
-    for (int round = 0; round < ROUNDS_BACK; round++) {
-        int kept = 0;
-        make_fresh(&kernel);
-        for (int i = 0; i < count; i++) {
-            before[kept] = kernel; /* here a way back is a copy */
-            if (call_kept(&kernel, records[i]).number == 0) {
-                accepted++;
-                kept++;
-            }
-        }
-        while (kept > 0)
-            kernel = before[--kept];
-    }
-    free(before);
-    printf("records %d rounds %d accepted %lu\n", count, ROUNDS_BACK, accepted);
+    printf("records %d rounds %d undone %lu left %lu fresh %lu\n", count, ROUNDS_UNDO, undone, left, ended);
     return 0;
 }
 
@@ -147,8 +151,7 @@ int back(void)
         }
     }
     unsigned long bytes = notes_log.used;
-    while (notes_log.used > 0)
-        undo_last(&kernel, &notes_log);
+    undo_notes(&kernel, &notes_log);
     make_fresh(&before);
     int fresh = states_are_equal(&kernel, &before);
     printf("records %lu accepted %lu bytes %lu %s\n", count, accepted, bytes, fresh ? "fresh" : "not fresh");
@@ -160,7 +163,7 @@ static const struct {
     int (*run)(void);
 } modes[] = {
     { "printed", 0, printed }, { "notes", 0, notes }, { "back", 0, back }, { "rounds", 0, rounds },
-    { "rounds", "plain", rounds_plain }, { "rounds", "back", rounds_back },
+    { "rounds", "plain", rounds_plain }, { "rounds", "undo", rounds_undo },
 };
 
 /* 2 where there is no such mode. */
@@ -172,7 +175,7 @@ static int run_mode(int argc, char **argv)
         if (argc == (modes[i].second ? 3 : 2) && strcmp(argv[1], modes[i].name) == 0
             && (argc == 2 || strcmp(argv[2], modes[i].second) == 0))
             return modes[i].run();
-    fprintf(stderr, "usage: second printed | both LINESFILE | notes | back | rounds [plain | back]  < records\n");
+    fprintf(stderr, "usage: second printed | both LINESFILE | notes | back | rounds [plain | undo]  < records\n");
     return 2;
 }
 

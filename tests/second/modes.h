@@ -19,6 +19,6 @@ int notes(void);
 int back(void);
 int rounds(void);
 int rounds_plain(void);
-int rounds_back(void);
+int rounds_undo(void);
 
 #endif
