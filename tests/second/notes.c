@@ -93,7 +93,7 @@ void touch_thread(struct touched *t, const struct kernel *k, uint8_t id)
     t->woken++;
 }
 
-/* A tick touches one whose time is up, and again where its post changes the count. */
+/* A tick touches one whose time is up, and again where its post changes the count; and one that looks so afterwards. */
 void touch_semaphore(struct touched *t, const struct kernel *k, uint8_t id)
 {
     if (t->semaphore_ids >> id & 1)
@@ -137,6 +137,22 @@ void touch_messages_of(struct touched *t, const struct kernel *k, uint8_t owner)
     }
 }
 
+/* ---- what a tick alone explains ---- */
+
+/* The ticks are the period: it was posted. Its count went up by one, unless it is 0 (a waiter woke) or at its maximum. */
+void aged_back(struct semaphore *s)
+{
+    if (s->period == 0)
+        return;
+    if (s->ticks_left != s->period) {
+        s->ticks_left++;
+        return;
+    }
+    s->ticks_left = 1;
+    if (s->count > 0 && s->count < s->maximum)
+        s->count--;
+}
+
 /* ---- what is predicted ---- */
 
 /* The wake reason's byte: with a timeout the waiter's condition, 2 to 4. */
@@ -157,11 +173,12 @@ void predict_thread(uint32_t *row, const uint8_t *record, int code, const struct
 {
     int kind = record[0], blocked = code >= WAS_ASLEEP;
     int woken = blocked && after->live && after->condition == READY;
-    row[0] = after->priority;
-    row[1] = after->first_priority;
+    int blocks = code == WAS_READY && after->condition != READY;
+    row[0] = code == NOT_LIVE ? 0 : after->priority;
+    row[1] = code == NOT_LIVE ? 0 : after->first_priority;
     row[2] = code < WAITED_SEMAPHORE ? 0 : kind == 19 || kind == 28 ? record[1] : after->object;
     row[3] = !blocked ? 0 : kind == 1 ? 1 : after->ticks_left;
-    row[4] = woken ? REASON_NONE : reason_code(after);
+    row[4] = woken ? REASON_NONE : blocks ? MET : reason_code(after);
     row[5] = code == NOT_LIVE ? 0 : woken || !after->live ? NONE : after->reply;
     row[6] = code == WAS_READY || code == WAITED_SEMAPHORE || code == WAITED_EVENT ? 0 : NONE;
     row[7] = code == WAS_ASLEEP || (kind == 1 && blocked) ? 0 : NONE;
@@ -169,11 +186,15 @@ void predict_thread(uint32_t *row, const uint8_t *record, int code, const struct
 
 void predict_semaphore(uint32_t *row, const uint8_t *record, const struct semaphore *after)
 {
-    int created = record[0] == 14;
+    int kind = record[0], created = kind == 14;
     row[0] = !created;
     row[1] = created ? 0 : after->count;
+    if (kind == 18 && after->count < 65535)
+        row[1] = after->count + 1u; /* the pend took one off */
+    if ((kind == 19 || kind == 28 || (kind == 1 && after->count == after->maximum)) && after->count > 0)
+        row[1] = after->count - 1u; /* the post added one */
     row[2] = created ? 0 : after->maximum;
-    row[3] = record[0] == 1 ? 1 : after->ticks_left;
+    row[3] = kind == 1 ? 1 : after->ticks_left;
     row[4] = after->period;
 }
 
@@ -264,12 +285,22 @@ static uint8_t *put_threads(uint8_t *start, const uint8_t *record, const struct 
     return end_section(start, p);
 }
 
+/* A tick's post is told by the new record: no entry where the old one is as ageing says. */
+static int semaphore_aged(const struct semaphore *old, const struct semaphore *now)
+{
+    struct semaphore told = *now;
+    aged_back(&told);
+    return old->ticks_left == told.ticks_left && old->count == told.count;
+}
+
 static uint8_t *put_semaphores(uint8_t *start, const uint8_t *record, const struct kernel *k, const struct touched *t)
 {
     uint8_t *p = start + 2;
     for (uint32_t rest = t->semaphore_ids; rest != 0; rest &= rest - 1) {
         int id = __builtin_ctz(rest);
         const struct semaphore *x = &t->semaphores[id];
+        if (t->tick && semaphore_aged(x, &k->semaphores[id]))
+            continue;
         uint32_t predicted[FIELDS], old[FIELDS] = { x->live, x->count, x->maximum, x->ticks_left, x->period };
         predict_semaphore(predicted, record, &k->semaphores[id]);
         *p++ = (uint8_t)id;

@@ -65,7 +65,10 @@ extern const struct layout scheduler_layout, thread_layout, semaphore_layout, ev
 /* The byte that a thread's entry has for its condition. */
 enum code { NOT_LIVE, WAS_READY, WAS_ASLEEP, WAITED_SEMAPHORE, WAITED_EVENT, WAITED_MESSAGE };
 
-/* What the call and the record after it tell of the old one; these serve the writer and the reader. */
+/* The record before a tick, as far as ageing explains it; this serves the writer and the reader, as the next ones do. */
+void aged_back(struct semaphore *s);
+
+/* What the call and the record after it tell of the old one. */
 void predict_scheduler(uint32_t *row, const uint8_t *record, const struct kernel *after);
 void predict_thread(uint32_t *row, const uint8_t *record, int code, const struct thread *after);
 void predict_semaphore(uint32_t *row, const uint8_t *record, const struct semaphore *after);

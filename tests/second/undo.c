@@ -152,12 +152,17 @@ static void undo_threads(struct kernel *k, const uint8_t *record, struct section
 
 /* ---- semaphores and events ---- */
 
+/* A record without an entry is what ageing says; an entry's fields are predicted from the record after the call. */
 static void undo_semaphores(struct kernel *k, const uint8_t *record, struct section s)
 {
+    struct semaphore after[SEMAPHORES];
     uint32_t row[FIELDS];
+    memcpy(after, k->semaphores, sizeof after);
+    for (int i = 0; record[0] == 1 && i < SEMAPHORES; i++)
+        aged_back(&k->semaphores[i]);
     while (s.at < s.end) {
         uint8_t id = *s.at++;
-        predict_semaphore(row, record, &k->semaphores[id]);
+        predict_semaphore(row, record, &after[id]);
         read_fields(&s, &semaphore_layout, row);
         k->semaphores[id] = (struct semaphore){ (uint8_t)row[0], (uint16_t)row[1], (uint16_t)row[2], row[3], row[4] };
     }
@@ -222,14 +227,12 @@ static void undo_messages(struct kernel *k, const uint8_t *record, uint8_t runne
 
 /* ---- the scheduler and the whole note ---- */
 
-/* A tick is taken off uptime, and back onto all that is still timed; a noted record replaces it afterwards. */
+/* A tick is taken off uptime, and back onto every thread that is still timed; a noted record replaces it afterwards. */
 static void undo_ageing(struct kernel *k)
 {
     k->uptime--;
     for (int i = 0; i < k->time_queue.length; i++)
         k->threads[k->time_queue.place[i]].ticks_left++;
-    for (int s = 0; s < SEMAPHORES; s++)
-        k->semaphores[s].ticks_left += k->semaphores[s].period > 0;
 }
 
 void undo_last(struct kernel *k, struct log *log)

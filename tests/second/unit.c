@@ -324,7 +324,7 @@ static int notes_as(const uint8_t *sections, size_t n, uint8_t kind, uint8_t a, 
 static void notes_of_threads(void)
 {
     make_fresh(&k);
-    NOTES(2, 5, 0, 0, 0, EMPTY, 5, 0, 0, 0, 3, 0, 0, EMPTY, EMPTY, EMPTY); /* had neither priority */
+    NOTES(2, 5, 0, 0, 0, EMPTY, 3, 0, 0, 0, 0, EMPTY, EMPTY, EMPTY); /* was all zero */
     memcpy(&k, &base, sizeof k);
     NOTES(19, 0, 0, 0, 0, EMPTY, 9, 0, 0, 3, 0xc8, 9, 0, 0, 0, 2, 1, EMPTY, EMPTY, EMPTY); /* behind two ready ones */
     memcpy(&k, &base, sizeof k);
@@ -337,17 +337,17 @@ static void notes_of_ticks(void)
 {
     memcpy(&k, &base, sizeof k);
     for (int i = 1; i <= 9; i++)
-        if (i == 5 || i == 8)
-            NOTES(1, 0, 0, 0, 0, EMPTY, EMPTY, 2, 0, 1, 0, EMPTY, EMPTY); /* at the maximum: only its time was up */
+        if (i == 2) /* its ticks are its period now, as if it had been posted */
+            NOTES(1, 0, 0, 0, 0, EMPTY, EMPTY, 8, 0, 1, 0x0a, 1, 0, 4, 0, 0, 0, EMPTY, EMPTY);
         else if (i == 7)
             NOTES(1, 0, 0, 0, 0, EMPTY, 3, 0, 2, 2, 0, EMPTY, EMPTY, EMPTY);
         else if (i == 9)
             NOTES(1, 0, 0, 0, 0, EMPTY, 9, 0, 0, 3, 0x40, 3, 1, 3, 0xc0, 4, 1, EMPTY, EMPTY, EMPTY);
         else
-            NOTES(1, 0, 0, 0, 0, EMPTY, EMPTY, EMPTY, EMPTY, EMPTY); /* ageing alone */
+            NOTES(1, 0, 0, 0, 0, EMPTY, EMPTY, EMPTY, EMPTY, EMPTY); /* ageing alone, posts too */
     NOTES(16, 1, 0, 1, 1, EMPTY, EMPTY, 10, 0, 1, 0x18, 2, 0, 0, 0, 3, 0, 0, 0, EMPTY, EMPTY);
     NOTES(16, 1, 0, 1, 1, EMPTY, EMPTY, EMPTY, EMPTY, EMPTY);
-    NOTES(1, 0, 0, 0, 0, EMPTY, EMPTY, 2, 0, 1, 0, EMPTY, EMPTY); /* the record stays, and yet it isn't ageing */
+    NOTES(1, 0, 0, 0, 0, EMPTY, EMPTY, EMPTY, EMPTY, EMPTY); /* at the maximum it stays there */
 }
 
 static void notes_of_levels_and_bits(void)
@@ -375,7 +375,7 @@ static void notes_of_messages(void)
           15, 0, 0, 0xfc, 1, 7, 0, 8, 0, 0, 0, 9, 0, 0, 0, 4, 0); /* queued, from another sender */
 }
 
-/* A log with room for a note of 28 bytes, but for none of 33. */
+/* A log with room for a note of 28 bytes, but for none of 31. */
 static void full_log(void)
 {
     static struct log log;
@@ -389,7 +389,7 @@ static void full_log(void)
     EXPECT(same(call_noted(&k, r, &log), 13, 255, 255) && log.used == LOG_LENGTH && k.uptime == 1);
     undo_last(&k, &log);
     EXPECT(k.uptime == 0 && log.used == LOG_LENGTH - 28);
-    log.used = LOG_LENGTH - 33;
+    log.used = LOG_LENGTH - 31;
     make_record(r, 2, 5, 0, 0, 0);
     EXPECT(same(call_noted(&k, r, &log), 0, 0, 0) && log.used == LOG_LENGTH);
 }

@@ -9,7 +9,7 @@ ghost use Rattle.spec_kernel.specs.Conditions.{isReady};
 ghost use Rattle.spec_notes.specs.Rows.{conditionCode, threadCode, conditionData, objectCode, wakeCode};
 ghost use Rattle.spec_notes.specs.Rows.{threadRow, threadWidths, conditionFrom, wakeFrom, threadFrom};
 ghost use Rattle.spec_notes.specs.Touched.{sameThread, oneTickMore, youngerThread};
-ghost use Rattle.spec_notes.specs.Predicted.{wasBlocked, predictedThread};
+ghost use Rattle.spec_notes.specs.Predicted.{wasBlocked, blocks, predictedThread};
 use base_rows::rows::Row;
 use code_kernel::conditions;
 use code_notes_entries::choices::word;
@@ -173,14 +173,35 @@ fn was_woken(r: Thread, code: u8) -> bool
     conditions::is_ready(r)
 }
 
-// A thread that was woken had no reason.
-fn wake_before(woken: bool, w: Wake) -> u8
-    ensures { λ r. ⌜ r ≡ cond woken 0 (wakeCode w) ⌝ }
+// Whether a ready thread sleeps or waits now.
+fn has_blocked(r: Thread, code: u8) -> bool
+    ensures { λ b. ⌜ b ≡ blocks code r ⌝ }
+{
+    if code != 1 {
+        return false;
+    }
+    let c = r.condition;
+    !conditions::ready_for(c)
+}
+
+// A thread that was woken had no reason; one that blocks had been met.
+fn wake_before(woken: bool, blocked: bool, w: Wake) -> u8
+    ensures { λ r. ⌜ r ≡ cond woken 0 (cond blocked 1 (wakeCode w)) ⌝ }
 {
     if woken {
         return 0;
     }
+    if blocked {
+        return 1;
+    }
     wake_code(w)
+}
+
+// A thread that wasn't live had no priority.
+fn priority_before(code: u8, priority: u8) -> u8
+    ensures { λ r. ⌜ r ≡ cond (eqb code 0) 0 priority ⌝ }
+{
+    if code == 0 { 0 } else { priority }
 }
 
 // It had no reply, nor had a thread that is gone.
@@ -228,13 +249,14 @@ pub fn predicted(c: Call, r: Thread, code: u8) -> Row
     let condition = r.condition;
     let wake = r.wake;
     let woken = was_woken(r, code);
+    let blocked = has_blocked(r, code);
     Row {
         fields: [
-            r.priority as u32,
-            r.first as u32,
+            priority_before(code, r.priority) as u32,
+            priority_before(code, r.first) as u32,
             data_before(c, condition, code) as u32,
             ticks_before(c, r.ticks, code),
-            wake_before(woken, wake) as u32,
+            wake_before(woken, blocked, wake) as u32,
             reply_before(woken, r, code) as u32,
             place_before(code) as u32,
             due_before(c, code) as u32,

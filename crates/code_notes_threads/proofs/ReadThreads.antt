@@ -17,7 +17,7 @@ use Rattle.spec_kernel.specs.Conditions.{isReady}
 use Rattle.spec_calls.specs.declared.call.Call.{Call}
 use Rattle.spec_refusals.specs.Refusals.{is, isOneOf}
 use Rattle.spec_notes.specs.Rows.{conditionData, threadWidths}
-use Rattle.spec_notes.specs.Predicted.{wasBlocked, predictedThread}
+use Rattle.spec_notes.specs.Predicted.{wasBlocked, blocks, predictedThread}
 use Rattle.spec_notes.specs.Back.{Threading, readThreads}
 use Rattle.spec_notes.proofs.ThreadsBack.{wake-below}
 use Rattle.code_notes_threads.specs.ReadThreads.{withEntry, entrySize}
@@ -61,14 +61,16 @@ Typed r = (r .priority < 256) × (r .first < 256) × (conditionData (r .conditio
 predicted-fit : (c : Call) (r : Thread) (code : ℕ) → c .a < 256 → Typed r → Fit threadWidths (predictedThread c r code)
 unfolding predictedThread
 predicted-fit c r code a (p, f, d, t, y) =
+    let priority = below (eqb code 0) 0 _ 256 (omega arith) p in
+    let first = below (eqb code 0) 0 _ 256 (omega arith) f in
     let woken = wasBlocked code && isReady r in
     let what = below (ltb 2 code) _ 0 65536 (below (isOneOf c (19 ∷ 28 ∷ [])) (c .a) _ _ (omega arith) d) (omega arith) in
     let left = below (wasBlocked code) _ 0 4294967296 (below (is c 1) 1 _ _ (omega arith) t) (omega arith) in
-    let wake = below woken 0 _ 256 (omega arith) (wake-below (r .wake)) in
+    let wake = below woken 0 _ 256 (omega arith) (below (blocks code r) 1 _ _ (omega arith) (wake-below (r .wake))) in
     let reply = below (eqb code 0) 0 _ 256 (omega arith) (below (not (r .live) || woken) 255 _ _ (omega arith) y) in
     let place = below (eqb code 1 || eqb code 3 || eqb code 4) 0 255 256 (omega arith) (omega arith) in
     let due = below (eqb code 2 || (is c 1 && wasBlocked code)) 0 255 256 (omega arith) (omega arith) in
-    (p, (f, (what, (left, (wake, (reply, (place, (due, tt))))))))
+    (priority, (first, (what, (left, (wake, (reply, (place, (due, tt))))))))
 
 -- so the row that is read fits, and is all there as far as its widths go
 pub row-fitted : (c : Call) (r : Thread) (code flags : ℕ) (s : List ℕ) → c .a < 256 → Typed r → Bytes s

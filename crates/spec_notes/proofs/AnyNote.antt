@@ -22,7 +22,7 @@ use Rattle.spec_calls.specs.declared.call.Call.{Call}
 use Rattle.spec_refusals.specs.Refusals.{is}
 use Rattle.spec_notes.specs.Rows.{threadFrom, threadWidths, semaphoreFrom, semaphoreWidths}
 use Rattle.spec_notes.specs.Rows.{eventFrom, eventWidths, messageFrom, messageWidths}
-use Rattle.spec_notes.specs.Touched.{oneTickMore, youngerThread, youngerSemaphore}
+use Rattle.spec_notes.specs.Touched.{oneTickMore, youngerThread, ticksBeforePulse, youngerSemaphore}
 use Rattle.spec_notes.specs.Predicted.{wasBlocked, predictedThread, predictedSemaphore, predictedEvent, predictedMessage}
 use Rattle.spec_notes.specs.Back.{fillPlace, merge, putBackAll, Threading}
 use Rattle.spec_notes.specs.Back.{readThreads, threadsBefore, readSemaphores, semaphoresBefore}
@@ -47,7 +47,7 @@ module _ (c : Call) where
   unfolding threadFrom predictedThread
   thread-read r (t, p) code flags s h = (
     row-at threadWidths flags _ s h 3 (either-below (wasBlocked code) _ _ _ (either-below (is c 1) _ _ _ (omega arith) t) (omega arith)),
-    row-at threadWidths flags _ s h 0 p,
+    row-at threadWidths flags _ s h 0 (either-below (eqb code 0) _ _ _ (omega arith) p),
   )
 
   thread-younger : (r : Thread) → FineThread r → FineThread (youngerThread c r)
@@ -97,7 +97,10 @@ module _ (c : Call) where
 
   semaphore-younger : (r : Semaphore) → SmallSemaphore r → SmallSemaphore (youngerSemaphore c r)
   unfolding youngerSemaphore
-  semaphore-younger r (m, t, p) = (m, either-below (is c 1 && ltb 0 (r .period)) _ _ _ (more-small (r .ticks) t) t, p)
+  semaphore-younger r (m, t, p) =
+      let before : ticksBeforePulse r < 4294967296 =
+      either-below (eqb (r .ticks) (r .period)) 1 (oneTickMore (r .ticks)) 4294967296 (omega arith) (more-small (r .ticks) t) in
+      (m, either-below (is c 1 && ltb 0 (r .period)) _ _ _ before t, p)
 
   module _ (new : List Semaphore) (F : (i : ℕ) → SmallSemaphore (getD new i noSemaphore)) where
     semaphores-fine : (n : ℕ) (s : List ℕ) (a : List Semaphore) → Bytes s → ((i : ℕ) → SmallSemaphore (getD a i noSemaphore))
