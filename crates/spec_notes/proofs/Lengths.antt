@@ -43,7 +43,7 @@ use Rattle.spec_notes.proofs.RecordsBack.{same-thread, same-semaphore}
 use Rattle.spec_notes.proofs.Counting.{countFrom, sameMessageRecord, threadsDiffer, semaphoresDiffer, messagesDiffer}
 use Rattle.spec_notes.proofs.EntriesShort.{entries-short, entries-but-one, count-none}
 use Rattle.spec_notes.proofs.EntriesShort.{thread-entry, semaphore-entry, event-entry, message-entry-live, bit-short}
-use Rattle.spec_notes.proofs.EntriesShort.{scheduler-short}
+use Rattle.spec_notes.proofs.EntriesShort.{entry-two, scheduler-short}
 use Rattle.spec_notes.proofs.Slight.{Slight, row-same, effect-slight}
 use Rattle.spec_notes.proofs.TickSlight.{Aged, tick-threads, tick-semaphores}
 
@@ -210,7 +210,8 @@ module _ (k : Kernel) (c : Call) (k′ : Kernel) where
           → length (semaphoreEntry c (k .semaphores) (k′ .semaphores) i) ≤ 13 * one (semaphoreDiffers i) + 2
       semaphore-two i h =
           cases (sameSemaphore (semaphore k i) (semaphore k′ i))
-          (λ s. rw (s, semaphore-predicted i h s, body-same semaphoreWidths (semaphoreRow (semaphore k i))) (omega arith))
+          (λ s. rw (s, semaphore-predicted i h s)
+          (entry-two 0 semaphoreWidths i _ _ (rw (body-same semaphoreWidths (semaphoreRow (semaphore k i))) (omega arith))))
           (λ s. rw s (semaphore-entry c (k .semaphores) (k′ .semaphores) i))
 
       semaphores-tick : length (semaphoresSection k c k′) ≤ 13 * semaphoresDiffer k k′ + 32

@@ -10,6 +10,8 @@ use lib.ListN.{set, replicate, length-map}
 use Rattle.base_queue.specs.Queues.{capacity, items}
 use Rattle.base_queue.specs.Tables.{oldPlace}
 use Rattle.base_queue.proofs.Queues.{length-items}
+use Rattle.base_rows.specs.Entries.{ownIn, readEntries}
+use Rattle.base_rows.proofs.EntriesRead.{id-back, code-back}
 use Rattle.spec_kernel.specs.declared.records.Condition.{Condition}
 use Rattle.spec_kernel.specs.declared.records.Condition.the-variants.{Ready, Asleep, ForSemaphore, ForEvent, ForMessage}
 use Rattle.spec_kernel.specs.declared.records.Object.{Object}
@@ -26,12 +28,12 @@ use Rattle.proof_rules.proofs.Core.{Core, Fits, untrue, live-semaphore, conditi
 use Rattle.proof_rules.proofs.Ends.{before}
 use Rattle.spec_notes.specs.Rows.{threadCode, threadRow, threadWidths, wakeCode}
 use Rattle.spec_notes.specs.Touched.{youngerThread, touchedThread}
-use Rattle.spec_notes.specs.Predicted.{predictedThread}
+use Rattle.spec_notes.specs.Predicted.{predictedCode, predictedThread}
 use Rattle.spec_notes.specs.Sections.{threadEntry, threadsSection}
-use Rattle.spec_notes.specs.Back.{putBackAll, Threading, readThreads, threadsBefore}
+use Rattle.spec_notes.specs.Back.{putBackAll, Threading, threadRead, threadsBefore}
 use Rattle.spec_notes.specs.Within.{Within}
 use Rattle.spec_notes.specs.LeftAlone.{LeftAlone}
-use Rattle.spec_notes.proofs.RowsBack.{Fit, none, field, row-back, rest-back}
+use Rattle.spec_notes.proofs.RowsBack.{Fit, none, field, entry-row, entry-rest}
 use Rattle.spec_notes.proofs.RecordsBack.{ByteId, thread-back, same-thread, younger-dead}
 use Rattle.spec_notes.proofs.EntriesBack.{getD-map, each, read-part, records-back}
 use Rattle.spec_notes.proofs.TablesBack.{place-below, table-back}
@@ -93,11 +95,20 @@ module _ (k : Kernel) (c : Call) (k′ : Kernel) where
         go C (ForEvent i) h = omega arith
         go C (ForMessage mask) h = tt
 
-    next : (n t : ℕ) (rest : List ℕ) (a : Threading)
-        → readThreads (suc n) c (k′ .threads) (entry t ++ rest) a ≡ readThreads n c (k′ .threads) rest (step t a)
-    unfolding readThreads DeadThreads
-    next n t rest a =
-        rw (rest-back (_ ∷ _ ∷ []) rest (fits t), row-back rest (fits t), thread-back (thread k t) _ _ (R .deadThreads t) (byte-id t))
+    next : (n t : ℕ) (rest : List ℕ) (a : Threading) → t < 64
+        → readEntries (ownIn threadWidths) (threadRead c (k′ .threads)) (suc n) (entry t ++ rest) a
+        ≡ readEntries (ownIn threadWidths) (threadRead c (k′ .threads)) n rest (step t a)
+    unfolding readEntries threadRead DeadThreads
+    next n t rest a b =
+        let code = threadCode (thread k t) in
+        let told = predictedCode c (thread k′ t) in
+        rw (
+          id-back t code told _ b,
+          code-back threadWidths t code told _ _ rest,
+          entry-rest t code told rest (fits t),
+          entry-row t code told rest (fits t),
+          thread-back (thread k t) _ _ (R .deadThreads t) (byte-id t),
+        )
 
     -- what the section gives, and a part of it
     abbrev read : Threading
@@ -112,10 +123,10 @@ module _ (k : Kernel) (c : Call) (k′ : Kernel) where
           at = replicate capacity 255;
           due = replicate capacity 255;
         }))
-    unfolding threadsBefore threadsSection readThreads touchedThread
+    unfolding threadsBefore threadsSection touchedThread
     part f put h =
-        read-part (λ n. readThreads n c (k′ .threads)) touched entry step (λ _. refl) (λ _. refl)
-        (λ _ _. refl) next f put h _ threadCount _ (le-refl _)
+        read-part (ownIn threadWidths) (threadRead c (k′ .threads)) touched entry step (λ _. refl) next f put h
+        _ threadCount _ (omega arith) (le-refl _)
 
     out : read .out ≡ each touched (λ t l. set l t 1) 0 threadCount (replicate capacity 0)
     out = part (λ a. a .out) (λ t l. set l t 1) (λ _ _. refl)

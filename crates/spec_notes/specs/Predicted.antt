@@ -12,7 +12,18 @@ use Rattle.spec_kernel.specs.declared.records.Kernel.{Kernel}
 use Rattle.spec_kernel.specs.Conditions.{readyFor, isReady}
 use Rattle.spec_calls.specs.declared.call.Call.{Call}
 use Rattle.spec_refusals.specs.Refusals.{is, isOneOf}
-use Rattle.spec_notes.specs.Rows.{conditionData, wakeCode, eventRow, schedulerRow}
+use Rattle.spec_notes.specs.Rows.{threadCode, conditionData, wakeCode, eventRow, schedulerRow}
+
+-- The code of a touched thread before. At a tick its wake reason tells it: one that was met slept, one that timed out waited. Else the kind
+-- does: a new one wasn't live, who wakes waited for what the call is about, a priority is set where the thread is, and a caller was ready.
+unfoldable pub predictedCode : Call → Thread → ℕ
+predictedCode c r =
+    cond (is c 1) (wakeCode (r .wake) + 1)
+    (cond (is c 2) 0
+    (cond (isOneOf c (4 ∷ 5 ∷ [])) (threadCode r)
+    (cond (isOneOf c (19 ∷ 28 ∷ [])) 3
+    (cond (isOneOf c (20 ∷ 22 ∷ 23 ∷ 29 ∷ 30 ∷ [])) 4
+    (cond (is c 26) 5 1)))))
 
 -- the thread slept or waited, of its code
 abbrev pub wasBlocked : ℕ → Bool
