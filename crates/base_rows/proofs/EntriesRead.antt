@@ -1,12 +1,13 @@
 -- Laws on entries: what is written reads back, an entry is as long as its parts, and entries are read one after the other.
-use Prim.Native.Nat.{ℕ, zero, suc, _+_, _*_, _/_, _%_, _≤_, _<_, min}
+use Prim.Native.Nat.{ℕ, zero, suc, _+_, _*_, _-_, _/_, _%_, _≤_, _<_, min}
 use mathlib.Core.Path.{_≡_, refl, sym, ap, _∙_}
 use mathlib.Core.List.{List, [], _∷_, _++_, append-assoc}
 use mathlib.Core.Bool.{Bool, true, false, cond, not}
+use native.Mathlib.Nat.{le-refl}
 use native.Mathlib.Omega.{arith}
 use lib.Dec.{eqb}
-use lib.ListN.{length, getD, drop, length-append, length-drop, drop-of-length-le}
-use lib.Seq.{drop-cons, drop-drop}
+use lib.ListN.{length, getD, take, drop, length-append, length-drop, drop-of-length-le}
+use lib.Seq.{drop-drop, take-all}
 use borrow.Author.Tests.{eqb-true}
 use borrow.Table.Steps.{cases}
 use Rattle.base_rows.specs.Rows.{flagOf, flagsOf, bodyOf, firstFlagged, taken, rowFrom, usedBy, sum, Fit}
@@ -115,6 +116,10 @@ unfolding tailOf
 fields-short ws old predicted n h = unless-short ws old predicted n h
 
 -- ---- entries, one after the other
+-- all that stands from p on
+pub from-there : (s : List ℕ) (p : ℕ) → take (length s - p) (drop p s) ≡ drop p s
+from-there s p = take-all (length s - p) (drop p s) (simp length-drop (le-refl _))
+
 module _ {A : Type 0} (own : ℕ → List ℕ → ℕ) (does : ℕ → List ℕ → A → A) where
   -- no entry is empty, so as many steps as there are bytes are enough
   enough : (n m : ℕ) (s : List ℕ) (a : A) → length s ≤ n → length s ≤ m → readEntries own does n s a ≡ readEntries own does m s a

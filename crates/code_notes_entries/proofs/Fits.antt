@@ -8,7 +8,8 @@ use lib.Dec.{eqb, ltb}
 use borrow.Author.Tests.{ltb-true}
 use borrow.Table.Steps.{cases}
 use Rattle.base_rows.specs.Rows.{rowFrom, cut, fitted, Fit}
-use Rattle.base_rows.proofs.Fitted.{Bytes, fitted-fit, rows-fit}
+use Rattle.base_rows.specs.Entries.{fieldsFrom, flagsIn, rowIn}
+use Rattle.base_rows.proofs.Fitted.{Bytes, drop-bytes, fitted-fit, rows-fit}
 use Rattle.base_queue.specs.Tables.{one}
 use Rattle.spec_kernel.specs.declared.records.Semaphore.{Semaphore}
 use Rattle.spec_kernel.specs.declared.records.Event.{Event}
@@ -19,13 +20,14 @@ use Rattle.spec_notes.specs.Rows.{semaphoreWidths, eventWidths, messageWidths}
 use Rattle.spec_notes.specs.Predicted.{countBefore, predictedSemaphore, predictedEvent, predictedMessage}
 
 -- a row that is read beside a predicted one that fits
-pub row-whole : (ws : List ℕ) (flags : ℕ) (ps s : List ℕ) → Bytes s → Fit ws ps → fitted ws (rowFrom ws flags ps s) ≡ rowFrom ws flags ps s
+row-whole : (ws : List ℕ) (flags : ℕ) (ps s : List ℕ) → Bytes s → Fit ws ps → fitted ws (rowFrom ws flags ps s) ≡ rowFrom ws flags ps s
 row-whole ws flags ps s h q = fitted-fit ws (rowFrom ws flags ps s) (rows-fit ws flags ps s h q)
 
--- a row that is read by widths of at most four bytes, beside a predicted one that fits
-pub read-fits : (ws : List ℕ) (flags : ℕ) (ps s : List ℕ) → cut ws ≡ ws → Bytes s → Fit ws ps
-    → fitted ws (rowFrom (cut ws) flags ps s) ≡ rowFrom ws flags ps s
-read-fits ws flags ps s e h q = rw e (row-whole ws flags ps s h q)
+-- an entry's row that is read by widths of at most four bytes, beside a predicted one that fits
+pub read-fits : (ws ps : List ℕ) (head : ℕ) (s : List ℕ) → cut ws ≡ ws → Bytes s → Fit ws ps
+    → fitted ws (rowIn (cut ws) ps head s) ≡ rowIn ws ps head s
+unfolding rowIn
+read-fits ws ps head s e h q = rw e (row-whole ws (flagsIn head s) ps _ (drop-bytes (fieldsFrom head) s h) q)
 
 pub below : (b : Bool) (x y n : ℕ) → x < n → y < n → cond b x y < n
 below true x y n p q = p

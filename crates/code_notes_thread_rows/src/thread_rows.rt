@@ -9,7 +9,7 @@ ghost use Rattle.spec_kernel.specs.Conditions.{isReady};
 ghost use Rattle.spec_notes.specs.Rows.{conditionCode, threadCode, conditionData, objectCode, wakeCode};
 ghost use Rattle.spec_notes.specs.Rows.{threadRow, threadWidths, conditionFrom, wakeFrom, threadFrom};
 ghost use Rattle.spec_notes.specs.Touched.{sameThread, oneTickMore, youngerThread};
-ghost use Rattle.spec_notes.specs.Predicted.{wasBlocked, blocks, predictedThread};
+ghost use Rattle.spec_notes.specs.Predicted.{predictedCode, wasBlocked, blocks, dataNow, predictedThread};
 use base_rows::rows::Row;
 use code_kernel::conditions;
 use code_notes_entries::choices::word;
@@ -75,11 +75,44 @@ pub fn code_of(r: Thread) -> u8
     condition_code(c)
 }
 
-// The widths of a row's fields, in bytes.
-pub const WIDTHS: [u8; 8] = [1, 1, 2, 4, 1, 1, 1, 1];
+// The widths of a row's fields, in bytes, of a thread of this code: a mask has two, an object's id one.
+pub fn widths_of(code: u8) -> [u8; 8]
+    ensures { λ r. ⌜ r ≡ threadWidths code ⌝ }
+{
+    if code == MASKED {
+        return [1, 1, 2, 4, 1, 1, 1, 1];
+    }
+    [1, 1, 1, 4, 1, 1, 1, 1]
+}
 
-// The longest entry: id, code, flags and every field.
+// The code of a thread that waits for a message.
+const MASKED: u8 = 5;
+
+// The longest entry: head, code, flags and every field.
 pub const LONGEST: usize = 15;
+
+// The code of a touched thread before: at a tick by its wake reason, else by the kind.
+pub fn predicted_code(c: Call, r: Thread) -> u8
+    ensures { λ n. ⌜ n ≡ predictedCode c r ⌝ }
+{
+    let kind = c.kind;
+    let wake = r.wake;
+    match kind {
+        1 => wake_code(wake) + 1,
+        2 => 0,
+        4 => code_of(r),
+        5 => code_of(r),
+        19 => 3,
+        20 => 4,
+        22 => 4,
+        23 => 4,
+        26 => 5,
+        28 => 3,
+        29 => 4,
+        30 => 4,
+        _ => 1,
+    }
+}
 
 pub fn row_of(r: Thread, place: u8, due: u8) -> Row
     ensures { λ x. ⌜ x .fields ≡ threadRow r place due ⌝ }
@@ -126,7 +159,7 @@ fn wake_from(code: u8) -> Wake
 
 // The thread of a code and a row; of each field, as much as its width holds.
 pub fn from_row(code: u8, row: [u32; 8]) -> Thread
-    ensures { λ r. ⌜ r ≡ threadFrom code (fitted threadWidths row) ⌝ }
+    ensures { λ r. ⌜ r ≡ threadFrom code (fitted (threadWidths code) row) ⌝ }
 {
     Thread {
         live: code != 0,
@@ -139,9 +172,19 @@ pub fn from_row(code: u8, row: [u32; 8]) -> Thread
     }
 }
 
+// What the thread waits for now, as far as the field of that code goes.
+fn data_now(condition: Condition, code: u8) -> u16
+    ensures { λ r. ⌜ r ≡ dataNow code condition ⌝ }
+{
+    if code == MASKED {
+        return data_of(condition);
+    }
+    data_of(condition) % 256
+}
+
 // What a blocked thread waited for: after a post, the semaphore of the call.
 fn data_before(c: Call, condition: Condition, code: u8) -> u16
-    ensures { λ r. ⌜ r ≡ cond (ltb 2 code) (cond (isOneOf c (19 ∷ 28 ∷ [])) (c .a) (conditionData condition)) 0 ⌝ }
+    ensures { λ r. ⌜ r ≡ cond (ltb 2 code) (cond (isOneOf c (19 ∷ 28 ∷ [])) (c .a) (dataNow code condition)) 0 ⌝ }
 {
     if code <= 2 {
         return 0;
@@ -149,7 +192,7 @@ fn data_before(c: Call, condition: Condition, code: u8) -> u16
     let kind = c.kind;
     match kind {
         19 | 28 => c.a as u16,
-        _ => data_of(condition),
+        _ => data_now(condition, code),
     }
 }
 

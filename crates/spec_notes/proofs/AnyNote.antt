@@ -27,7 +27,7 @@ use Rattle.spec_notes.specs.Rows.{eventFrom, eventWidths, messageFrom, m
 use Rattle.spec_notes.specs.Touched.{oneTickMore, youngerThread, ticksBeforePulse, youngerSemaphore}
 use Rattle.spec_notes.specs.Predicted.{wasBlocked, predictedThread, predictedSemaphore, predictedEvent, predictedMessage}
 use Rattle.spec_notes.specs.Back.{fillPlace, merge, putBackAll, Threading}
-use Rattle.spec_notes.specs.Back.{threadRead, threadsBefore, semaphoreRead, semaphoresBefore}
+use Rattle.spec_notes.specs.Back.{threadOwn, threadRead, threadsBefore, semaphoreRead, semaphoresBefore}
 use Rattle.spec_notes.specs.Back.{eventRead, bitChanged, eventsBefore, Filing, messageRead, messagesBefore}
 use Rattle.spec_notes.proofs.EntriesBack.{getD-map}
 use Rattle.spec_notes.proofs.Limits.{SmallSemaphore, SmallEvent, set-all}
@@ -45,11 +45,11 @@ more-small n b = cases (ltb n 4294967295) (λ e. rw e (omega (arith, ltb-true n 
 
 module _ (c : Call) where
   thread-read : (r : Thread) → FineThread r → (code flags : ℕ) (s : List ℕ) → Bytes s
-      → FineThread (threadFrom code (rowFrom threadWidths flags (predictedThread c r code) s))
+      → FineThread (threadFrom code (rowFrom (threadWidths code) flags (predictedThread c r code) s))
   unfolding threadFrom predictedThread
   thread-read r (t, p) code flags s h = (
-    row-at threadWidths flags _ s h 3 (either-below (wasBlocked code) _ _ _ (either-below (is c 1) _ _ _ (omega arith) t) (omega arith)),
-    row-at threadWidths flags _ s h 0 (either-below (eqb code 0) _ _ _ (omega arith) p),
+    row-at (threadWidths code) flags _ s h 3 (either-below (wasBlocked code) _ _ _ (either-below (is c 1) _ _ _ (omega arith) t) (omega arith)),
+    row-at (threadWidths code) flags _ s h 0 (either-below (eqb code 0) _ _ _ (omega arith) p),
   )
 
   thread-younger : (r : Thread) → FineThread r → FineThread (youngerThread c r)
@@ -71,7 +71,7 @@ module _ (c : Call) where
     pub threads-any : (s : List ℕ) → Bytes s → (t : ℕ) → FineThread (getD (threadsBefore c new s .threads) t noThread)
     unfolding threadsBefore
     threads-any s h =
-        entries-keep (ownIn threadWidths) (threadRead c new) (λ a. (t : ℕ) → FineThread (getD (a .threads) t noThread)) threads-fine
+        entries-keep (threadOwn c new) (threadRead c new) (λ a. (t : ℕ) → FineThread (getD (a .threads) t noThread)) threads-fine
         (length s) s _ h
         (λ t. cases (ltb t (length new))
         (λ e. rw (getD-map (youngerThread c) new t noThread (ltb-true t (length new) e)) (thread-younger _ (F t)))
@@ -81,7 +81,7 @@ module _ (c : Call) where
     pub threads-sized : (s : List ℕ) → length (threadsBefore c new s .threads) ≡ length new
     unfolding threadsBefore
     threads-sized s =
-        entries-hold (ownIn threadWidths) (threadRead c new) (λ a. length (a .threads) ≡ length new) (threads-count (length new))
+        entries-hold (threadOwn c new) (threadRead c new) (λ a. length (a .threads) ≡ length new) (threads-count (length new))
         (length s) s _ (length-map new (youngerThread c))
 
 -- ---- semaphores

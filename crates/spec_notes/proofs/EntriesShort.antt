@@ -22,10 +22,11 @@ use Rattle.spec_kernel.specs.declared.records.Kernel.{Kernel}
 use Rattle.spec_kernel.specs.Sizes.{threadCount, semaphoreCount, eventCount, messageCount}
 use Rattle.spec_moves.specs.declared.parts.Threads.{Threads}
 use Rattle.spec_moves.specs.declared.parts.Posts.{Posts}
+use Rattle.spec_moves.specs.Moves.{threadIn}
 use Rattle.spec_moves.specs.Standing.{threadsOf, postsOf, messageIn}
 use Rattle.spec_calls.specs.declared.call.Call.{Call}
 use Rattle.spec_refusals.specs.Refusals.{is}
-use Rattle.spec_notes.specs.Rows.{threadWidths, semaphoreWidths, eventWidths, messageWidths, schedulerWidths}
+use Rattle.spec_notes.specs.Rows.{threadCode, threadWidths, semaphoreWidths, eventWidths, messageWidths, schedulerWidths}
 use Rattle.spec_notes.specs.Predicted.{predictedMessage}
 use Rattle.spec_notes.specs.Sections.{entriesFrom, threadEntry, threadEntries, threadsSection, semaphoreEntry, semaphoreEntries}
 use Rattle.spec_notes.specs.Sections.{semaphoresSection, eventEntry, eventEntries, bitNoted, eventsSection, messageEntry}
@@ -89,6 +90,11 @@ body-first : (w o p : ℕ) (ws os ps : List ℕ) → o ≡ p → length (bodyOf 
 unfolding bodyOf
 body-first w o p ws os ps e = rw (eq-eqb o p e) (body-short ws os ps)
 
+-- the fields of a thread
+widths-twelve : (code : ℕ) → sum (threadWidths code) ≤ 12
+unfolding sum
+widths-twelve code = cases (eqb code 5) (λ e. rw e (omega arith)) (λ e. rw e (omega arith))
+
 -- with a code, and without one
 entry-three : (n : ℕ) (ws : List ℕ) (id code told : ℕ) (os ps : List ℕ) → 3 + sum ws ≤ n → length (entryOf ws id code told os ps) ≤ n
 entry-three n ws id code told os ps h = omega (arith, tail-short ws code told os ps)
@@ -100,7 +106,7 @@ module _ (c : Call) where
   module _ (old : Threads) (new : List Thread) where
     pub thread-entry : (t : ℕ) → length (threadEntry c old new t) ≤ 15
     unfolding sum
-    thread-entry t = entry-three 15 threadWidths t _ _ _ _ (omega arith)
+    thread-entry t = entry-three 15 _ t _ _ _ _ (omega (arith, widths-twelve (threadCode (threadIn old t))))
 
     pub threads-run : (runner i n : ℕ) → length (threadEntries c runner old new i n) ≤ 15 * n
     threads-run runner = entries-each _ (threadEntry c old new) 15 thread-entry

@@ -59,16 +59,23 @@ threadBack t code row a =
       due = set (a .due) (getD row 7 0) t;
     }
 
--- an entry; `new` are the records after the call
+-- an entry: its code, how many bytes are its own, and what it puts back; `new` are the records after the call
+abbrev pub codeRead : Call → List Thread → ℕ → List ℕ → ℕ
+codeRead c new head s = codeIn (predictedCode c (getD new (idOf head) noThread)) head s
+
+unfoldable pub threadOwn : Call → List Thread → ℕ → List ℕ → ℕ
+threadOwn c new head s = ownIn (threadWidths (codeRead c new head s)) head s
+
 unfoldable pub threadRead : Call → List Thread → ℕ → List ℕ → Threading → Threading
 threadRead c new head s a =
-    let r = getD new (idOf head) noThread in
-    let code = codeIn (predictedCode c r) head s in
-    threadBack (idOf head) code (rowIn threadWidths (predictedThread c r code) head s) a
+    let code = codeRead c new head s in
+    threadBack (idOf head) code
+    (rowIn (threadWidths code) (predictedThread c (getD new (idOf head) noThread) code) head s)
+    a
 
 unfoldable pub threadsBefore : Call → List Thread → List ℕ → Threading
 threadsBefore c new s =
-    readEntries (ownIn threadWidths) (threadRead c new) (length s) s
+    readEntries (threadOwn c new) (threadRead c new) (length s) s
     (record {
       threads = map (youngerThread c) new;
       out = replicate capacity 0;

@@ -1,9 +1,10 @@
 -- What of an old record can be told from the call and the record after it: the closer, the shorter the note.
 -- Nothing here has to be right: a field that isn't as predicted is written.
-use Prim.Native.Nat.{ℕ, _+_, _-_}
+use Prim.Native.Nat.{ℕ, _+_, _-_, _%_}
 use mathlib.Core.Bool.{Bool, not, cond, _&&_, _||_}
 use mathlib.Core.List.{List, [], _∷_}
 use lib.Dec.{eqb, ltb}
+use Rattle.spec_kernel.specs.declared.records.Condition.{Condition}
 use Rattle.spec_kernel.specs.declared.records.Thread.{Thread}
 use Rattle.spec_kernel.specs.declared.records.Semaphore.{Semaphore}
 use Rattle.spec_kernel.specs.declared.records.Event.{Event}
@@ -33,13 +34,17 @@ wasBlocked code = ltb 1 code
 abbrev pub blocks : ℕ → Thread → Bool
 blocks code r = eqb code 1 && not (readyFor (r .condition))
 
+-- what it waits for now, as far as the field of that code goes
+abbrev pub dataNow : ℕ → Condition → ℕ
+dataNow code condition = cond (eqb code 5) (conditionData condition) (conditionData condition % 256)
+
 -- A thread of this code before: one that wasn't live was all zero; a ready one had no ticks left, one whose time was up had one; a
 -- blocked one that is ready now had no reason and no reply, one that blocks had been met; the caller stood first; one that slept woke first.
 unfoldable pub predictedThread : Call → Thread → ℕ → List ℕ
 predictedThread c r code =
     cond (eqb code 0) 0 (r .priority)
     ∷ cond (eqb code 0) 0 (r .first)
-    ∷ cond (ltb 2 code) (cond (isOneOf c (19 ∷ 28 ∷ [])) (c .a) (conditionData (r .condition))) 0
+    ∷ cond (ltb 2 code) (cond (isOneOf c (19 ∷ 28 ∷ [])) (c .a) (dataNow code (r .condition))) 0
     ∷ cond (wasBlocked code) (cond (is c 1) 1 (r .ticks)) 0
     ∷ cond (wasBlocked code && isReady r) 0 (cond (blocks code r) 1 (wakeCode (r .wake)))
     ∷ cond (eqb code 0) 0 (cond (not (r .live) || (wasBlocked code && isReady r)) 255 (r .reply))

@@ -35,7 +35,8 @@ entriesFrom touched entry i (suc n) = let r = entriesFrom touched entry (suc i) 
 -- a thread before: its id, and what isn't as predicted of its code, its record and its two places
 abbrev pub threadNoted : ℕ → Call → Thread → ℕ → ℕ → Thread → List ℕ
 threadNoted t c old place due new =
-    entryOf threadWidths t (threadCode old) (predictedCode c new) (threadRow old place due) (predictedThread c new (threadCode old))
+    entryOf (threadWidths (threadCode old)) t (threadCode old) (predictedCode c new) (threadRow old place due)
+    (predictedThread c new (threadCode old))
 
 abbrev pub threadEntry : Call → Threads → List Thread → ℕ → List ℕ
 threadEntry c old new t =
