@@ -122,7 +122,7 @@ from-there s p = take-all (length s - p) (drop p s) (simp length-drop (le-refl _
 
 module _ {A : Type 0} (own : ℕ → List ℕ → ℕ) (does : ℕ → List ℕ → A → A) where
   -- no entry is empty, so as many steps as there are bytes are enough
-  enough : (n m : ℕ) (s : List ℕ) (a : A) → length s ≤ n → length s ≤ m → readEntries own does n s a ≡ readEntries own does m s a
+  pub enough : (n m : ℕ) (s : List ℕ) (a : A) → length s ≤ n → length s ≤ m → readEntries own does n s a ≡ readEntries own does m s a
   unfolding readEntries
   enough zero zero s a p q = refl
   enough zero (suc m) [] a p q = refl

@@ -1,4 +1,5 @@
 pub mod Entries
+pub mod EntryTurns
 pub mod RowFields
 pub mod Fits
 pub mod Typed
