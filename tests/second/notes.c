@@ -4,7 +4,8 @@
 #include "notes.h"
 
 const struct layout scheduler_layout = { 3, { 1, 1, 1 } };
-const struct layout thread_layout = { 8, { 1, 1, 2, 4, 1, 1, 1, 1 } };
+const struct layout thread_layout = { 8, { 1, 1, 1, 4, 1, 1, 1, 1 } }; /* object id */
+const struct layout receiver_layout = { 8, { 1, 1, 2, 4, 1, 1, 1, 1 } }; /* mask */
 const struct layout semaphore_layout = { 5, { 1, 2, 2, 4, 4 } };
 const struct layout event_layout = { 3, { 1, 4, 4 } };
 const struct layout message_layout = { 8, { 1, 1, 1, 2, 4, 4, 1, 1 } };
@@ -169,6 +170,19 @@ void predict_scheduler(uint32_t *row, const uint8_t *record, const struct kernel
     row[2] = after->running;
 }
 
+int predict_code(const uint8_t *record, const struct thread *after)
+{
+    switch (record[0]) {
+    case 1: return reason_code(after) + 1; /* met: it slept */
+    case 2: return NOT_LIVE;
+    case 4: case 5: return after->live ? after->condition + 1 : NOT_LIVE;
+    case 19: case 28: return WAITED_SEMAPHORE;
+    case 20: case 22: case 23: case 29: case 30: return WAITED_EVENT;
+    case 26: return WAITED_MESSAGE;
+    default: return WAS_READY;
+    }
+}
+
 void predict_thread(uint32_t *row, const uint8_t *record, int code, const struct thread *after)
 {
     int kind = record[0], blocked = code >= WAS_ASLEEP;
@@ -176,7 +190,8 @@ void predict_thread(uint32_t *row, const uint8_t *record, int code, const struct
     int blocks = code == WAS_READY && after->condition != READY;
     row[0] = code == NOT_LIVE ? 0 : after->priority;
     row[1] = code == NOT_LIVE ? 0 : after->first_priority;
-    row[2] = code < WAITED_SEMAPHORE ? 0 : kind == 19 || kind == 28 ? record[1] : after->object;
+    row[2] = code < WAITED_SEMAPHORE ? 0 : kind == 19 || kind == 28 ? record[1]
+        : code == WAITED_MESSAGE ? after->object : after->object % 256u;
     row[3] = !blocked ? 0 : kind == 1 ? 1 : after->ticks_left;
     row[4] = woken ? REASON_NONE : blocks ? MET : reason_code(after);
     row[5] = code == NOT_LIVE ? 0 : woken || !after->live ? NONE : after->reply;
@@ -231,7 +246,7 @@ static inline uint8_t *put(uint8_t *p, int width, uint32_t value)
     return p + width;
 }
 
-/* The flags, and the fields that aren't as predicted. Each caller's layout is constant, so its loop is written out. */
+/* The flags and the fields that aren't as predicted, or nothing. Each caller's layout is constant, so its loop is written out. */
 static inline __attribute__((always_inline))
 uint8_t *put_fields(uint8_t *p, const struct layout *l, const uint32_t *old, const uint32_t *predicted)
 {
@@ -239,12 +254,23 @@ uint8_t *put_fields(uint8_t *p, const struct layout *l, const uint32_t *old, con
 #pragma GCC unroll 8
     for (int i = 0; i < l->fields; i++)
         flags |= (unsigned)(old[i] != predicted[i]) << i;
+    if (flags == 0)
+        return p;
     *p++ = (uint8_t)flags;
     for (unsigned rest = flags; rest != 0; rest &= rest - 1) {
         int i = __builtin_ctz(rest);
         p = put(p, l->width[i], old[i]);
     }
     return p;
+}
+
+/* An entry without a code: the head has the id, and whether fields follow. */
+static inline __attribute__((always_inline))
+uint8_t *put_entry(uint8_t *head, int id, const struct layout *l, const uint32_t *old, const uint32_t *predicted)
+{
+    uint8_t *end = put_fields(head + 1, l, old, predicted);
+    *head = (uint8_t)(id | (end == head + 1 ? 0 : HEAD_FIELDS));
+    return end;
 }
 
 /* The section from `start` on ends at `end`: its length goes in front. */
@@ -264,7 +290,7 @@ static uint8_t *put_scheduler(uint8_t *start, const uint8_t *record, const struc
     if (t->unscheduled == 0 && t->critical == 0)
         old[2] = predicted[2];
     uint8_t *end = put_fields(start + 2, &scheduler_layout, old, predicted);
-    return end_section(start, end == start + 3 ? start + 2 : end); /* no field: no flags */
+    return end_section(start, end);
 }
 
 static uint8_t *put_threads(uint8_t *start, const uint8_t *record, const struct kernel *k, const struct touched *t)
@@ -278,9 +304,13 @@ static uint8_t *put_threads(uint8_t *start, const uint8_t *record, const struct 
                                  reason_code(&x->old), x->old.reply, x->place, x->time_place };
         uint32_t predicted[FIELDS];
         predict_thread(predicted, record, code, &k->threads[id]);
-        *p++ = (uint8_t)id;
-        *p++ = (uint8_t)code;
-        p = put_fields(p, &thread_layout, old, predicted);
+        uint8_t *head = p++;
+        int said = code != predict_code(record, &k->threads[id]);
+        if (said)
+            *p++ = (uint8_t)code;
+        uint8_t *end = put_fields(p, code == WAITED_MESSAGE ? &receiver_layout : &thread_layout, old, predicted);
+        *head = (uint8_t)(id | (said ? HEAD_CODE : 0) | (end == p ? 0 : HEAD_FIELDS));
+        p = end;
     }
     return end_section(start, p);
 }
@@ -303,8 +333,7 @@ static uint8_t *put_semaphores(uint8_t *start, const uint8_t *record, const stru
             continue;
         uint32_t predicted[FIELDS], old[FIELDS] = { x->live, x->count, x->maximum, x->ticks_left, x->period };
         predict_semaphore(predicted, record, &k->semaphores[id]);
-        *p++ = (uint8_t)id;
-        p = put_fields(p, &semaphore_layout, old, predicted);
+        p = put_entry(p, id, &semaphore_layout, old, predicted);
     }
     return end_section(start, p);
 }
@@ -313,14 +342,13 @@ static uint8_t *put_events(uint8_t *start, const struct kernel *k, const struct 
 {
     uint8_t *p = start + 2;
     if (t->bits != k->bits)
-        *p++ = EVENTS; /* no event's id: bit a was the other way */
+        *p++ = EVENTS; /* no event's head: bit a was the other way */
     for (uint32_t rest = t->event_ids; rest != 0; rest &= rest - 1) {
         int id = __builtin_ctz(rest);
         const struct event *x = &t->events[id];
         uint32_t predicted[FIELDS], old[FIELDS] = { x->mode, x->mask, x->values };
         predict_event(predicted, &k->events[id]);
-        *p++ = (uint8_t)id;
-        p = put_fields(p, &event_layout, old, predicted);
+        p = put_entry(p, id, &event_layout, old, predicted);
     }
     return end_section(start, p);
 }
@@ -335,8 +363,7 @@ static uint8_t *put_messages(uint8_t *start, const uint8_t *record, const struct
                                  x->old.address, x->channel, x->place };
         uint32_t predicted[FIELDS];
         predict_message(predicted, record, k->running, &k->messages[id]);
-        *p++ = (uint8_t)id;
-        p = put_fields(p, &message_layout, old, predicted);
+        p = put_entry(p, id, &message_layout, old, predicted);
     }
     return end_section(start, p);
 }

@@ -1,7 +1,7 @@
 -- Laws on entries: what is written reads back, an entry is as long as its parts, and entries are read one after the other.
 use Prim.Native.Nat.{ℕ, zero, suc, _+_, _*_, _-_, _/_, _%_, _≤_, _<_, min}
-use mathlib.Core.Path.{_≡_, refl, sym, ap, _∙_}
-use mathlib.Core.List.{List, [], _∷_, _++_, append-assoc}
+use mathlib.Core.Path.{_≡_, refl, sym, _∙_}
+use mathlib.Core.List.{List, [], _∷_, _++_}
 use mathlib.Core.Bool.{Bool, true, false, cond, not}
 use native.Mathlib.Nat.{le-refl}
 use native.Mathlib.Omega.{arith}
@@ -10,11 +10,11 @@ use lib.ListN.{length, getD, take, drop, length-append, length-drop, drop-of-len
 use lib.Seq.{drop-drop, take-all}
 use borrow.Author.Tests.{eqb-true}
 use borrow.Table.Steps.{cases}
-use Rattle.base_rows.specs.Rows.{flagOf, flagsOf, bodyOf, firstFlagged, taken, rowFrom, usedBy, sum, Fit}
-use Rattle.base_rows.specs.Entries.{unlessPredicted, codeNoted, headOf, tailOf, idOf, flagsFrom, fieldsFrom, codeIn, flagsIn, rowIn}
-use Rattle.base_rows.specs.Entries.{ownIn, readEntries}
+use Rattle.base_rows.specs.Rows.{flagOf, flagsOf, bodyOf, firstFlagged, taken, sum}
+use Rattle.base_rows.specs.Entries.{unlessPredicted, codeNoted, headOf, tailOf, idOf, fieldsFrom, codeIn, flagsIn}
+use Rattle.base_rows.specs.Entries.{readEntries}
 use Rattle.base_bytes.proofs.Turns.{drop-least}
-use Rattle.base_rows.proofs.Codec.{body-short, rest-back, row-back}
+use Rattle.base_rows.proofs.Codec.{body-short}
 use Rattle.base_rows.proofs.Fitted.{Bytes, drop-bytes}
 
 -- ---- the head
@@ -99,7 +99,8 @@ module _ (ws : List ℕ) (id code told : ℕ) (old predicted rest : List ℕ) wh
 code-short : (code told : ℕ) → length (codeNoted code told) ≤ 1
 code-short code told = cases (eqb code told) (λ e. rw e (omega arith)) (λ e. rw e (omega arith))
 
-pub unless-short : (ws old predicted : List ℕ) (n : ℕ) → length (bodyOf ws old predicted) ≤ n → length (unlessPredicted ws old predicted) ≤ 1 + n
+pub unless-short : (ws old predicted : List ℕ) (n : ℕ) → length (bodyOf ws old predicted) ≤ n
+    → length (unlessPredicted ws old predicted) ≤ 1 + n
 unless-short ws old predicted n h =
     cases (eqb (flagsOf old predicted) 0) (λ e. rw e (omega arith)) (λ e. rw e (omega arith))
 

@@ -16,7 +16,7 @@ use spec_kernel::records::Semaphore;
 // The widths of these fields, in bytes.
 pub const WIDTHS: [u8; 8] = [1, 2, 2, 4, 4, 0, 0, 0];
 
-// The longest entry: id, flags and every field.
+// The longest entry: head, flags and every field.
 pub const LONGEST: usize = 15;
 
 pub fn row_of(r: Semaphore) -> Row

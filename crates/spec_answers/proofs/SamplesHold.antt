@@ -79,8 +79,8 @@ unfolding
     threadsSection semaphoresSection eventsSection messagesSection schedulerSection
     beforeLength noteOf
     isWhole firstSection behindSection sectionsAt areWhole sectionBytes framesOf
-    putBackAll threadOwn threadRead threadsBefore semaphoreRead semaphoresBefore eventRead bitsBefore eventsBefore messageRead messagesBefore
-    levelsBefore threadsBack postsBack beforeAt stateBefore
+    putBackAll threadOwn threadRead threadsBefore semaphoreRead semaphoresBefore eventRead bitsBefore eventsBefore messageRead
+    messagesBefore levelsBefore threadsBack postsBack beforeAt stateBefore
     lastLength hasLast lastNote
     sameQueue sameNumbers sameKernel
     callBytes backFrom levelsFit yieldsAgain undoesNote undoes

@@ -48,7 +48,8 @@ module _ (c : Call) where
       → FineThread (threadFrom code (rowFrom (threadWidths code) flags (predictedThread c r code) s))
   unfolding threadFrom predictedThread
   thread-read r (t, p) code flags s h = (
-    row-at (threadWidths code) flags _ s h 3 (either-below (wasBlocked code) _ _ _ (either-below (is c 1) _ _ _ (omega arith) t) (omega arith)),
+    row-at (threadWidths code) flags _ s h 3
+        (either-below (wasBlocked code) _ _ _ (either-below (is c 1) _ _ _ (omega arith) t) (omega arith)),
     row-at (threadWidths code) flags _ s h 0 (either-below (eqb code 0) _ _ _ (omega arith) p),
   )
 

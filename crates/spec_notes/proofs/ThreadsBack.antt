@@ -2,7 +2,7 @@
 use Prim.Native.Nat.{ℕ, suc, _^_, _<_}
 use mathlib.Core.Path.{_≡_, refl, sym, _∙_}
 use mathlib.Core.Bool.{Bool, true, false, cond, not, _||_, false≢true}
-use mathlib.Core.List.{List, [], _∷_, _++_, map}
+use mathlib.Core.List.{List, _++_, map}
 use native.Mathlib.Nat.{le-refl}
 use native.Mathlib.Omega.{arith}
 use lib.Dec.{eqb, ltb}
@@ -100,7 +100,8 @@ module _ (k : Kernel) (c : Call) (k′ : Kernel) where
         go C (ForMessage mask) h = tt
 
     fits : (t : ℕ)
-        → Fit (threadWidths (threadCode (thread k t))) (threadRow (thread k t) (oldPlace t (items (k .places))) (oldPlace t (items (k .time))))
+        → Fit (threadWidths (threadCode (thread k t)))
+        (threadRow (thread k t) (oldPlace t (items (k .places))) (oldPlace t (items (k .time))))
         (predictedThread c (thread k′ t) (threadCode (thread k t)))
     unfolding predictedThread DeadThreads
     fits t =

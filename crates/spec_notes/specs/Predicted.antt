@@ -38,8 +38,8 @@ blocks code r = eqb code 1 && not (readyFor (r .condition))
 abbrev pub dataNow : ℕ → Condition → ℕ
 dataNow code condition = cond (eqb code 5) (conditionData condition) (conditionData condition % 256)
 
--- A thread of this code before: one that wasn't live was all zero; a ready one had no ticks left, one whose time was up had one; a
--- blocked one that is ready now had no reason and no reply, one that blocks had been met; the caller stood first; one that slept woke first.
+-- A thread of this code before: one that wasn't live was all zero; a ready one had no ticks left, one whose time was up had one; a blocked
+-- one that is ready now had no reason and no reply, one that blocks had been met; the caller stood first; one that slept woke first.
 unfoldable pub predictedThread : Call → Thread → ℕ → List ℕ
 predictedThread c r code =
     cond (eqb code 0) 0 (r .priority)

@@ -49,8 +49,8 @@ youngerThread c r =
       reply = r .reply;
     }
 
--- A periodic semaphore whose ticks are its period was posted: it had one left, and its count was one less, unless it is at 0, where a waiter
--- woke, or at its maximum, where it mostly was before.
+-- A periodic semaphore whose ticks are its period was posted: it had one left, and its count was one less, unless it is at 0, where a
+-- waiter woke, or at its maximum, where it mostly was before.
 abbrev pub ticksBeforePulse : Semaphore → ℕ
 ticksBeforePulse r = cond (eqb (r .ticks) (r .period)) 1 (oneTickMore (r .ticks))
 

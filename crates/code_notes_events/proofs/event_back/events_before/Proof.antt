@@ -114,7 +114,8 @@ loop-again : tie.Need-loop-again Inv-loop μ-loop
 loop-again c =
     let u = c .before .before .before in
     let l = loop-of u .loop in
-    (l .inv .0, simp length-set (l .inv .1), stored u _ (stores (start-of u .args .t1) _ _ _ _ (l .a) (u .id-in .ensures) (c .record-in .ensures)))
+    let done = stores (start-of u .args .t1) _ _ _ _ (l .a) (u .id-in .ensures) (c .record-in .ensures) in
+    (l .inv .0, simp length-set (l .inv .1), stored u _ done)
 
 loop-less-2 : tie.Need-loop-less-2 Inv-loop μ-loop
 loop-less-2 c = omega (arith, on (c .before))
@@ -124,7 +125,8 @@ unfolding eventRead
 loop-again-2 c =
     let u = c .before in
     let l = loop-of u .loop in
-    let past : length (l .a) ≤ idOf (getD (part (start-of u .args .s .now) (l .p)) 0 0) = omega (arith, u .id-in .ensures, l .inv .1, c .if1 .left) in
+    let past : length (l .a) ≤ idOf (getD (part (start-of u .args .s .now) (l .p)) 0 0) =
+    omega (arith, u .id-in .ensures, l .inv .1, c .if1 .left) in
     (l .inv .0, l .inv .1, stored u _ (sym (set-out (l .a) _ _ past)))
 
 returns : tie.Need-returns Inv-loop μ-loop

@@ -1,5 +1,4 @@
 -- `code_notes_events::event_notes::put_event` meets its contract: the entry of both rows.
-use Rattle.base_bytes.specs.Pens.{puts}
 use borrow.Author.Needs.{needs}
 use Rattle.code_notes_events.proofs.event_notes.put_event.Statement.{statement}
 use Rattle.code_notes_events.proofs.event_notes.put_event.Tie as tie

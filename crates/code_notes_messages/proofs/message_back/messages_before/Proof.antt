@@ -87,7 +87,8 @@ filed c messages e =
       turned (ownIn messageWidths) (messageRead (a .c) (a .runner) (a .new)) (a .s .now) (u .before .before .before .loop-test .taken)
           (u .before .size-in .ensures)
           old
-          (stores (a .c) (a .runner) (a .new) _ _ _ old (u .id-in .ensures) (r .before .message-at .ensures) (r .row-before .ensures .0) e out places)
+          (stores (a .c) (a .runner) (a .new) _ _ _ old (u .id-in .ensures) (r .before .message-at .ensures) (r .row-before .ensures .0)
+          e out places)
           (l .inv .3),
     )
 

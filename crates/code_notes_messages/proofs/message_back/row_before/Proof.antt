@@ -1,10 +1,9 @@
 -- `code_notes_messages::message_back::row_before` meets its contract: no width is above four, and what is read fits.
 use Prim.Native.Nat.{ℕ}
-use mathlib.Core.Path.{_≡_, _∙_}
+use mathlib.Core.Path.{_≡_}
 use mathlib.Core.List.{List}
 use native.Mathlib.Omega.{arith}
 use lib.ListN.{getD, drop}
-use Rattle.base_rows.specs.Rows.{cut}
 use Rattle.base_rows.specs.Entries.{rowIn}
 use Rattle.base_rows.proofs.Fitted.{Bytes, drop-bytes}
 use Rattle.spec_notes.specs.Rows.{messageWidths}
@@ -26,7 +25,9 @@ returns c =
     let s : List ℕ = a .e .now in
     let b : Bytes s = λ i. omega (arith, c .before .before .before .shared-slice-known .given i) in
     let told = predictedMessage (a .c) (a .runner) (a .r) in
-    let f = message-fits (a .c) (a .runner) (a .r) (search needs) (search needs) (search needs) (search needs) (search needs) (search needs) (search needs) in
+    let f =
+    message-fits (a .c) (a .runner) (a .r) (search needs) (search needs) (search needs) (search needs) (search needs) (search needs)
+    (search needs) in
     let e : c .row-in .result .fields ≡ rowIn messageWidths told (getD s 0 0) (drop 1 s) =
     rw (c .row-in .ensures, c .before .before .predicted .ensures) (rw cut-message) in
     (e, rw e (rw cut-message at (read-fits messageWidths told (getD s 0 0) (drop 1 s) cut-message (drop-bytes 1 s b) f)))

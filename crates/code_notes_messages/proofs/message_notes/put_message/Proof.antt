@@ -1,5 +1,4 @@
 -- `code_notes_messages::message_notes::put_message` meets its contract: the entry of both rows.
-use Rattle.base_bytes.specs.Pens.{puts}
 use borrow.Author.Needs.{needs}
 use Rattle.code_notes_messages.proofs.message_notes.put_message.Statement.{statement}
 use Rattle.code_notes_messages.proofs.message_notes.put_message.Tie as tie

@@ -44,7 +44,8 @@ on : (c : tie.After-id-in Inv-loop μ-loop) → (0 < c .before .size-in .result)
     × (loop-of c .loop .p + c .before .size-in .result ≤ length (start-of c .args .s .now))
 on c =
     let a = start-of c .args in
-    turn-on (ownIn semaphoreWidths) (semaphoreRead (a .c) (a .t2)) (a .s .now) (c .before .before .before .loop-test .taken) (c .before .size-in .ensures)
+    turn-on (ownIn semaphoreWidths) (semaphoreRead (a .c) (a .t2)) (a .s .now) (c .before .before .before .loop-test .taken)
+    (c .before .size-in .ensures)
 
 -- what is stored is what the entry does, and then the entries behind it
 stored : (c : tie.After-id-in Inv-loop μ-loop) (l : List Semaphore) → let a = start-of c .args in
@@ -54,7 +55,8 @@ stored : (c : tie.After-id-in Inv-loop μ-loop) (l : List Semaphore) → let a =
     ≡ entriesFrom (ownIn semaphoreWidths) (semaphoreRead (a .c) (a .t2)) (a .s .now) (loop-of c .loop .p + c .before .size-in .result) l
 stored c l h =
     let a = start-of c .args in
-    turned (ownIn semaphoreWidths) (semaphoreRead (a .c) (a .t2)) (a .s .now) (c .before .before .before .loop-test .taken) (c .before .size-in .ensures)
+    turned (ownIn semaphoreWidths) (semaphoreRead (a .c) (a .t2)) (a .s .now) (c .before .before .before .loop-test .taken)
+    (c .before .size-in .ensures)
     (loop-of c .loop .a) h (loop-of c .loop .inv .2)
 
 younger-all-requires : tie.Need-younger-all-requires Inv-loop μ-loop
@@ -111,7 +113,8 @@ loop-again : tie.Need-loop-again Inv-loop μ-loop
 loop-again c =
     let u = c .before .before .before in
     let l = loop-of u .loop in
-    (l .inv .0, simp length-set (l .inv .1), stored u _ (stores (start-of u .args .c) (start-of u .args .t2) _ _ _ _ (l .a) (u .id-in .ensures) (c .record-in .ensures)))
+    let done = stores (start-of u .args .c) (start-of u .args .t2) _ _ _ _ (l .a) (u .id-in .ensures) (c .record-in .ensures) in
+    (l .inv .0, simp length-set (l .inv .1), stored u _ done)
 
 loop-less-2 : tie.Need-loop-less-2 Inv-loop μ-loop
 loop-less-2 c = omega (arith, on (c .before))
@@ -121,7 +124,8 @@ unfolding semaphoreRead
 loop-again-2 c =
     let u = c .before in
     let l = loop-of u .loop in
-    let past : length (l .a) ≤ idOf (getD (part (start-of u .args .s .now) (l .p)) 0 0) = omega (arith, u .id-in .ensures, l .inv .1, c .if1 .left) in
+    let past : length (l .a) ≤ idOf (getD (part (start-of u .args .s .now) (l .p)) 0 0) =
+    omega (arith, u .id-in .ensures, l .inv .1, c .if1 .left) in
     (l .inv .0, l .inv .1, stored u _ (sym (set-out (l .a) _ _ past)))
 
 returns : tie.Need-returns Inv-loop μ-loop

@@ -1,5 +1,4 @@
 -- `code_notes_semaphores::semaphore_notes::put_semaphore` meets its contract: the entry of both rows.
-use Rattle.base_bytes.specs.Pens.{puts}
 use borrow.Author.Needs.{needs}
 use Rattle.code_notes_semaphores.proofs.semaphore_notes.put_semaphore.Statement.{statement}
 use Rattle.code_notes_semaphores.proofs.semaphore_notes.put_semaphore.Tie as tie

@@ -23,7 +23,12 @@ either-requires c κs = search needs
 
 returns-2 : tie.Need-returns-2
 unfolding predictedSemaphore
-returns-2 c = rw (ne-eqb _ 14 (c .before .before .before .before .if1 .left), c .before .before .before .count-before .ensures, c .either .ensures)
+returns-2 c =
+    rw (
+      ne-eqb _ 14 (c .before .before .before .before .if1 .left),
+      c .before .before .before .count-before .ensures,
+      c .either .ensures,
+    )
 
 pub predicted-spec : {M : Type 1} → statement M
 predicted-spec =

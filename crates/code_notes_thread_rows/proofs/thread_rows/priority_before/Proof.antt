@@ -1,6 +1,5 @@
 -- `code_notes_thread_rows::thread_rows::priority_before` meets its contract: the test is that of `predictedThread`.
 use borrow.Author.Tests.{eq-eqb, ne-eqb}
-use borrow.Author.Needs.{needs}
 use Rattle.code_notes_thread_rows.proofs.thread_rows.priority_before.Statement.{statement}
 use Rattle.code_notes_thread_rows.proofs.thread_rows.priority_before.Tie as tie
 

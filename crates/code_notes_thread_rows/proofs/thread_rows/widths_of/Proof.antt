@@ -1,6 +1,5 @@
 -- `code_notes_thread_rows::thread_rows::widths_of` meets its contract: the test is that of `threadWidths`.
 use borrow.Author.Tests.{eq-eqb, ne-eqb}
-use borrow.Author.Needs.{needs}
 use Rattle.code_notes_thread_rows.proofs.thread_rows.widths_of.Statement.{statement}
 use Rattle.code_notes_thread_rows.proofs.thread_rows.widths_of.Tie as tie
 
