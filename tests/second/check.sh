@@ -96,7 +96,7 @@ differs() {
     grep -q "^differ at line $2:" "$work/said" || fail "both, $1: $(cat "$work/said")"
 }
 
-$logs ticks 7 33000 > "$work/long" # more than its notes' log can hold
+$logs ticks 7 42000 > "$work/long" # more than its notes' log can hold
 for log in mixed.1 ticks.1 semaphores.1 messages.1 events.1 priorities.1 regions.1 senseless.1 edges long; do
     build=careful
     case $log in edges | long) build=second ;; esac # long ones in the quicker build

@@ -16,6 +16,7 @@ struct answer step_noted(struct kernel *k, const uint8_t record[RECORD], struct 
 int printed(void);
 int both(const char *lines_file);
 int notes(void);
+int kinds(void);
 int back(void);
 int rounds(void);
 int rounds_plain(void);

@@ -4,7 +4,8 @@
 #include "notes.h"
 
 const struct layout scheduler_layout = { 3, { 1, 1, 1 } };
-const struct layout thread_layout = { 8, { 1, 1, 2, 4, 1, 1, 1, 1 } };
+const struct layout thread_layout = { 8, { 1, 1, 1, 4, 1, 1, 1, 1 } }; /* object id */
+const struct layout receiver_layout = { 8, { 1, 1, 2, 4, 1, 1, 1, 1 } }; /* mask */
 const struct layout semaphore_layout = { 5, { 1, 2, 2, 4, 4 } };
 const struct layout event_layout = { 3, { 1, 4, 4 } };
 const struct layout message_layout = { 8, { 1, 1, 1, 2, 4, 4, 1, 1 } };
@@ -93,7 +94,7 @@ void touch_thread(struct touched *t, const struct kernel *k, uint8_t id)
     t->woken++;
 }
 
-/* A tick touches one whose time is up, and again where its post changes the count. */
+/* A tick touches one whose time is up, and again where its post changes the count; and one that looks so afterwards. */
 void touch_semaphore(struct touched *t, const struct kernel *k, uint8_t id)
 {
     if (t->semaphore_ids >> id & 1)
@@ -137,6 +138,22 @@ void touch_messages_of(struct touched *t, const struct kernel *k, uint8_t owner)
     }
 }
 
+/* ---- what a tick alone explains ---- */
+
+/* The ticks are the period: it was posted. Its count went up by one, unless it is 0 (a waiter woke) or at its maximum. */
+void aged_back(struct semaphore *s)
+{
+    if (s->period == 0)
+        return;
+    if (s->ticks_left != s->period) {
+        s->ticks_left++;
+        return;
+    }
+    s->ticks_left = 1;
+    if (s->count > 0 && s->count < s->maximum)
+        s->count--;
+}
+
 /* ---- what is predicted ---- */
 
 /* The wake reason's byte: with a timeout the waiter's condition, 2 to 4. */
@@ -153,15 +170,30 @@ void predict_scheduler(uint32_t *row, const uint8_t *record, const struct kernel
     row[2] = after->running;
 }
 
+int predict_code(const uint8_t *record, const struct thread *after)
+{
+    switch (record[0]) {
+    case 1: return reason_code(after) + 1; /* met: it slept */
+    case 2: return NOT_LIVE;
+    case 4: case 5: return after->live ? after->condition + 1 : NOT_LIVE;
+    case 19: case 28: return WAITED_SEMAPHORE;
+    case 20: case 22: case 23: case 29: case 30: return WAITED_EVENT;
+    case 26: return WAITED_MESSAGE;
+    default: return WAS_READY;
+    }
+}
+
 void predict_thread(uint32_t *row, const uint8_t *record, int code, const struct thread *after)
 {
     int kind = record[0], blocked = code >= WAS_ASLEEP;
     int woken = blocked && after->live && after->condition == READY;
-    row[0] = after->priority;
-    row[1] = after->first_priority;
-    row[2] = code < WAITED_SEMAPHORE ? 0 : kind == 19 || kind == 28 ? record[1] : after->object;
+    int blocks = code == WAS_READY && after->condition != READY;
+    row[0] = code == NOT_LIVE ? 0 : after->priority;
+    row[1] = code == NOT_LIVE ? 0 : after->first_priority;
+    row[2] = code < WAITED_SEMAPHORE ? 0 : kind == 19 || kind == 28 ? record[1]
+        : code == WAITED_MESSAGE ? after->object : after->object % 256u;
     row[3] = !blocked ? 0 : kind == 1 ? 1 : after->ticks_left;
-    row[4] = woken ? REASON_NONE : reason_code(after);
+    row[4] = woken ? REASON_NONE : blocks ? MET : reason_code(after);
     row[5] = code == NOT_LIVE ? 0 : woken || !after->live ? NONE : after->reply;
     row[6] = code == WAS_READY || code == WAITED_SEMAPHORE || code == WAITED_EVENT ? 0 : NONE;
     row[7] = code == WAS_ASLEEP || (kind == 1 && blocked) ? 0 : NONE;
@@ -169,11 +201,15 @@ void predict_thread(uint32_t *row, const uint8_t *record, int code, const struct
 
 void predict_semaphore(uint32_t *row, const uint8_t *record, const struct semaphore *after)
 {
-    int created = record[0] == 14;
+    int kind = record[0], created = kind == 14;
     row[0] = !created;
     row[1] = created ? 0 : after->count;
+    if (kind == 18 && after->count < 65535)
+        row[1] = after->count + 1u; /* the pend took one off */
+    if ((kind == 19 || kind == 28 || (kind == 1 && after->count == after->maximum)) && after->count > 0)
+        row[1] = after->count - 1u; /* the post added one */
     row[2] = created ? 0 : after->maximum;
-    row[3] = record[0] == 1 ? 1 : after->ticks_left;
+    row[3] = kind == 1 ? 1 : after->ticks_left;
     row[4] = after->period;
 }
 
@@ -210,7 +246,7 @@ static inline uint8_t *put(uint8_t *p, int width, uint32_t value)
     return p + width;
 }
 
-/* The flags, and the fields that aren't as predicted. Each caller's layout is constant, so its loop is written out. */
+/* The flags and the fields that aren't as predicted, or nothing. Each caller's layout is constant, so its loop is written out. */
 static inline __attribute__((always_inline))
 uint8_t *put_fields(uint8_t *p, const struct layout *l, const uint32_t *old, const uint32_t *predicted)
 {
@@ -218,12 +254,23 @@ uint8_t *put_fields(uint8_t *p, const struct layout *l, const uint32_t *old, con
 #pragma GCC unroll 8
     for (int i = 0; i < l->fields; i++)
         flags |= (unsigned)(old[i] != predicted[i]) << i;
+    if (flags == 0)
+        return p;
     *p++ = (uint8_t)flags;
     for (unsigned rest = flags; rest != 0; rest &= rest - 1) {
         int i = __builtin_ctz(rest);
         p = put(p, l->width[i], old[i]);
     }
     return p;
+}
+
+/* An entry without a code: the head has the id, and whether fields follow. */
+static inline __attribute__((always_inline))
+uint8_t *put_entry(uint8_t *head, int id, const struct layout *l, const uint32_t *old, const uint32_t *predicted)
+{
+    uint8_t *end = put_fields(head + 1, l, old, predicted);
+    *head = (uint8_t)(id | (end == head + 1 ? 0 : HEAD_FIELDS));
+    return end;
 }
 
 /* The section from `start` on ends at `end`: its length goes in front. */
@@ -243,7 +290,7 @@ static uint8_t *put_scheduler(uint8_t *start, const uint8_t *record, const struc
     if (t->unscheduled == 0 && t->critical == 0)
         old[2] = predicted[2];
     uint8_t *end = put_fields(start + 2, &scheduler_layout, old, predicted);
-    return end_section(start, end == start + 3 ? start + 2 : end); /* no field: no flags */
+    return end_section(start, end);
 }
 
 static uint8_t *put_threads(uint8_t *start, const uint8_t *record, const struct kernel *k, const struct touched *t)
@@ -257,11 +304,23 @@ static uint8_t *put_threads(uint8_t *start, const uint8_t *record, const struct 
                                  reason_code(&x->old), x->old.reply, x->place, x->time_place };
         uint32_t predicted[FIELDS];
         predict_thread(predicted, record, code, &k->threads[id]);
-        *p++ = (uint8_t)id;
-        *p++ = (uint8_t)code;
-        p = put_fields(p, &thread_layout, old, predicted);
+        uint8_t *head = p++;
+        int said = code != predict_code(record, &k->threads[id]);
+        if (said)
+            *p++ = (uint8_t)code;
+        uint8_t *end = put_fields(p, code == WAITED_MESSAGE ? &receiver_layout : &thread_layout, old, predicted);
+        *head = (uint8_t)(id | (said ? HEAD_CODE : 0) | (end == p ? 0 : HEAD_FIELDS));
+        p = end;
     }
     return end_section(start, p);
+}
+
+/* A tick's post is told by the new record: no entry where the old one is as ageing says. */
+static int semaphore_aged(const struct semaphore *old, const struct semaphore *now)
+{
+    struct semaphore told = *now;
+    aged_back(&told);
+    return old->ticks_left == told.ticks_left && old->count == told.count;
 }
 
 static uint8_t *put_semaphores(uint8_t *start, const uint8_t *record, const struct kernel *k, const struct touched *t)
@@ -270,10 +329,11 @@ static uint8_t *put_semaphores(uint8_t *start, const uint8_t *record, const stru
     for (uint32_t rest = t->semaphore_ids; rest != 0; rest &= rest - 1) {
         int id = __builtin_ctz(rest);
         const struct semaphore *x = &t->semaphores[id];
+        if (t->tick && semaphore_aged(x, &k->semaphores[id]))
+            continue;
         uint32_t predicted[FIELDS], old[FIELDS] = { x->live, x->count, x->maximum, x->ticks_left, x->period };
         predict_semaphore(predicted, record, &k->semaphores[id]);
-        *p++ = (uint8_t)id;
-        p = put_fields(p, &semaphore_layout, old, predicted);
+        p = put_entry(p, id, &semaphore_layout, old, predicted);
     }
     return end_section(start, p);
 }
@@ -282,14 +342,13 @@ static uint8_t *put_events(uint8_t *start, const struct kernel *k, const struct 
 {
     uint8_t *p = start + 2;
     if (t->bits != k->bits)
-        *p++ = EVENTS; /* no event's id: bit a was the other way */
+        *p++ = EVENTS; /* no event's head: bit a was the other way */
     for (uint32_t rest = t->event_ids; rest != 0; rest &= rest - 1) {
         int id = __builtin_ctz(rest);
         const struct event *x = &t->events[id];
         uint32_t predicted[FIELDS], old[FIELDS] = { x->mode, x->mask, x->values };
         predict_event(predicted, &k->events[id]);
-        *p++ = (uint8_t)id;
-        p = put_fields(p, &event_layout, old, predicted);
+        p = put_entry(p, id, &event_layout, old, predicted);
     }
     return end_section(start, p);
 }
@@ -304,8 +363,7 @@ static uint8_t *put_messages(uint8_t *start, const uint8_t *record, const struct
                                  x->old.address, x->channel, x->place };
         uint32_t predicted[FIELDS];
         predict_message(predicted, record, k->running, &k->messages[id]);
-        *p++ = (uint8_t)id;
-        p = put_fields(p, &message_layout, old, predicted);
+        p = put_entry(p, id, &message_layout, old, predicted);
     }
     return end_section(start, p);
 }

@@ -60,13 +60,20 @@ struct layout {
     int fields;
     uint8_t width[FIELDS];
 };
-extern const struct layout scheduler_layout, thread_layout, semaphore_layout, event_layout, message_layout;
+extern const struct layout scheduler_layout, thread_layout, receiver_layout, semaphore_layout, event_layout, message_layout;
 
-/* The byte that a thread's entry has for its condition. */
+/* An entry's head: the id, whether a code follows, and whether flags and fields do. */
+enum { HEAD_ID = 63, HEAD_CODE = 64, HEAD_FIELDS = 128 };
+
+/* What a thread's condition was. */
 enum code { NOT_LIVE, WAS_READY, WAS_ASLEEP, WAITED_SEMAPHORE, WAITED_EVENT, WAITED_MESSAGE };
 
-/* What the call and the record after it tell of the old one; these serve the writer and the reader. */
+/* The record before a tick, as far as ageing explains it; this serves the writer and the reader, as the next ones do. */
+void aged_back(struct semaphore *s);
+
+/* What the call and the record after it tell of the old one. */
 void predict_scheduler(uint32_t *row, const uint8_t *record, const struct kernel *after);
+int predict_code(const uint8_t *record, const struct thread *after);
 void predict_thread(uint32_t *row, const uint8_t *record, int code, const struct thread *after);
 void predict_semaphore(uint32_t *row, const uint8_t *record, const struct semaphore *after);
 void predict_event(uint32_t *row, const struct event *after);

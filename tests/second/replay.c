@@ -271,9 +271,12 @@ static void tick(struct kernel *k)
         wake(k, q->place[0], k->threads[q->place[0]].condition == ASLEEP ? MET : TIMED_OUT);
     for (uint8_t s = 0; s < SEMAPHORES; s++) {
         struct semaphore *sem = &k->semaphores[s];
-        if (sem->period > 0 && --sem->ticks_left == 0) {
-            if (touched)
-                touch_semaphore(touched, k, s);
+        if (sem->period == 0)
+            continue;
+        sem->ticks_left--;
+        if (touched && (sem->ticks_left == 0 || sem->ticks_left == sem->period))
+            touch_semaphore(touched, k, s); /* posted, or as if */
+        if (sem->ticks_left == 0) {
             post_semaphore(k, s);
             sem->ticks_left = sem->period;
         }

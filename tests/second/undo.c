@@ -35,10 +35,10 @@ static struct section next_section(const uint8_t **p)
     return s;
 }
 
-/* The flags and the flagged fields; the others keep what the row has, which is predicted. */
-static void read_fields(struct section *s, const struct layout *l, uint32_t *row)
+/* Where `there` says so, the flags and the flagged fields; the others keep what the row has, which is predicted. */
+static void read_fields(struct section *s, int there, const struct layout *l, uint32_t *row)
 {
-    int flags = *s->at++;
+    int flags = there ? *s->at++ : 0;
     for (int i = 0; i < l->fields; i++)
         if (flags >> i & 1) {
             row[i] = number(s->at, l->width[i]);
@@ -134,10 +134,11 @@ static void undo_threads(struct kernel *k, const uint8_t *record, struct section
     begin_returned(&lists);
     begin_returned(&times);
     while (s.at < s.end) {
-        uint8_t id = *s.at++;
-        int code = *s.at++;
+        int head = *s.at++;
+        uint8_t id = head & HEAD_ID;
+        int code = head & HEAD_CODE ? *s.at++ : predict_code(record, &k->threads[id]);
         predict_thread(row, record, code, &k->threads[id]);
-        read_fields(&s, &thread_layout, row);
+        read_fields(&s, head & HEAD_FIELDS, code == WAITED_MESSAGE ? &receiver_layout : &thread_layout, row);
         k->threads[id] = thread_from(code, row);
         add_returned(&lists, id, row[6]);
         add_returned(&times, id, row[7]);
@@ -152,13 +153,19 @@ static void undo_threads(struct kernel *k, const uint8_t *record, struct section
 
 /* ---- semaphores and events ---- */
 
+/* A record without an entry is what ageing says; an entry's fields are predicted from the record after the call. */
 static void undo_semaphores(struct kernel *k, const uint8_t *record, struct section s)
 {
+    struct semaphore after[SEMAPHORES];
     uint32_t row[FIELDS];
+    memcpy(after, k->semaphores, sizeof after);
+    for (int i = 0; record[0] == 1 && i < SEMAPHORES; i++)
+        aged_back(&k->semaphores[i]);
     while (s.at < s.end) {
-        uint8_t id = *s.at++;
-        predict_semaphore(row, record, &k->semaphores[id]);
-        read_fields(&s, &semaphore_layout, row);
+        int head = *s.at++;
+        uint8_t id = head & HEAD_ID;
+        predict_semaphore(row, record, &after[id]);
+        read_fields(&s, head & HEAD_FIELDS, &semaphore_layout, row);
         k->semaphores[id] = (struct semaphore){ (uint8_t)row[0], (uint16_t)row[1], (uint16_t)row[2], row[3], row[4] };
     }
 }
@@ -171,9 +178,10 @@ static void undo_events(struct kernel *k, const uint8_t *record, struct section 
         k->bits ^= (uint32_t)1 << record[1];
     }
     while (s.at < s.end) {
-        uint8_t id = *s.at++;
+        int head = *s.at++;
+        uint8_t id = head & HEAD_ID;
         predict_event(row, &k->events[id]);
-        read_fields(&s, &event_layout, row);
+        read_fields(&s, head & HEAD_FIELDS, &event_layout, row);
         k->events[id] = (struct event){ (uint8_t)row[0], row[1], row[2] };
     }
 }
@@ -203,9 +211,10 @@ static void undo_messages(struct kernel *k, const uint8_t *record, uint8_t runne
     add_posted(&posted, channel, k);
     begin_returned(&queued);
     while (s.at < s.end) {
-        uint8_t id = *s.at++;
+        int head = *s.at++;
+        uint8_t id = head & HEAD_ID;
         predict_message(row, record, runner, &k->messages[id]);
-        read_fields(&s, &message_layout, row);
+        read_fields(&s, head & HEAD_FIELDS, &message_layout, row);
         k->messages[id] = (struct message){ (uint8_t)row[0], (uint8_t)row[1], (uint8_t)row[2],
                                             (uint16_t)row[3], row[4], row[5] };
         channel[id] = (uint8_t)row[6];
@@ -222,14 +231,12 @@ static void undo_messages(struct kernel *k, const uint8_t *record, uint8_t runne
 
 /* ---- the scheduler and the whole note ---- */
 
-/* A tick is taken off uptime, and back onto all that is still timed; a noted record replaces it afterwards. */
+/* A tick is taken off uptime, and back onto every thread that is still timed; a noted record replaces it afterwards. */
 static void undo_ageing(struct kernel *k)
 {
     k->uptime--;
     for (int i = 0; i < k->time_queue.length; i++)
         k->threads[k->time_queue.place[i]].ticks_left++;
-    for (int s = 0; s < SEMAPHORES; s++)
-        k->semaphores[s].ticks_left += k->semaphores[s].period > 0;
 }
 
 void undo_last(struct kernel *k, struct log *log)
@@ -240,8 +247,7 @@ void undo_last(struct kernel *k, struct log *log)
     uint32_t row[FIELDS];
     struct section s = next_section(&next);
     predict_scheduler(row, record, k);
-    if (s.at < s.end)
-        read_fields(&s, &scheduler_layout, row);
+    read_fields(&s, s.at < s.end, &scheduler_layout, row);
     if (record[0] == 1)
         undo_ageing(k);
     undo_threads(k, record, next_section(&next));

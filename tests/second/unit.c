@@ -324,12 +324,15 @@ static int notes_as(const uint8_t *sections, size_t n, uint8_t kind, uint8_t a, 
 static void notes_of_threads(void)
 {
     make_fresh(&k);
-    NOTES(2, 5, 0, 0, 0, EMPTY, 5, 0, 0, 0, 3, 0, 0, EMPTY, EMPTY, EMPTY); /* had neither priority */
+    NOTES(2, 5, 0, 0, 0, EMPTY, 1, 0, 0, EMPTY, EMPTY, EMPTY); /* was all zero */
     memcpy(&k, &base, sizeof k);
-    NOTES(19, 0, 0, 0, 0, EMPTY, 9, 0, 0, 3, 0xc8, 9, 0, 0, 0, 2, 1, EMPTY, EMPTY, EMPTY); /* behind two ready ones */
+    NOTES(19, 0, 0, 0, 0, EMPTY, 8, 0, 0x80, 0xc8, 9, 0, 0, 0, 2, 1, EMPTY, EMPTY, EMPTY); /* behind two ready ones */
     memcpy(&k, &base, sizeof k);
-    NOTES(20, 0, 0, 0, 0, EMPTY, 4, 0, 3, 4, 0x40, 4, EMPTY, 3, 0, 0, 1, 1, EMPTY); /* was mode any */
-    NOTES(4, 6, 7, 0, 0, EMPTY, 4, 0, 6, 1, 0x40, 2, EMPTY, EMPTY, EMPTY); /* the same priority */
+    NOTES(20, 0, 0, 0, 0, EMPTY, 3, 0, 0x83, 0x40, 4, EMPTY, 3, 0, 0x80, 1, 1, EMPTY); /* was mode any */
+    NOTES(4, 6, 7, 0, 0, EMPTY, 3, 0, 0x86, 0x40, 2, EMPTY, EMPTY, EMPTY); /* the same priority */
+    NOTES(9, 0, 0, 0, 0, 2, 0, 4, 5, EMPTY, EMPTY, EMPTY, EMPTY); /* 3 runs now, and wasn't met before it waited */
+    NOTES(7, 0, 0, 3, 0, EMPTY, 1, 0, 3, EMPTY, EMPTY, EMPTY);    /* met, as predicted */
+    NOTES(7, 0, 0, 3, 0, EMPTY, 3, 0, 0x85, 0x10, 0, EMPTY, EMPTY, EMPTY); /* 5 was never woken */
 }
 
 /* Thread 2 wakes at the seventh tick; at the ninth 0 and 1, which stand behind three ready threads, time out. */
@@ -337,17 +340,20 @@ static void notes_of_ticks(void)
 {
     memcpy(&k, &base, sizeof k);
     for (int i = 1; i <= 9; i++)
-        if (i == 5 || i == 8)
-            NOTES(1, 0, 0, 0, 0, EMPTY, EMPTY, 2, 0, 1, 0, EMPTY, EMPTY); /* at the maximum: only its time was up */
+        if (i == 2) /* its ticks are its period now, as if it had been posted */
+            NOTES(1, 0, 0, 0, 0, EMPTY, EMPTY, 8, 0, 0x81, 0x0a, 1, 0, 4, 0, 0, 0, EMPTY, EMPTY);
         else if (i == 7)
-            NOTES(1, 0, 0, 0, 0, EMPTY, 3, 0, 2, 2, 0, EMPTY, EMPTY, EMPTY);
+            NOTES(1, 0, 0, 0, 0, EMPTY, 1, 0, 2, EMPTY, EMPTY, EMPTY);
         else if (i == 9)
-            NOTES(1, 0, 0, 0, 0, EMPTY, 9, 0, 0, 3, 0x40, 3, 1, 3, 0xc0, 4, 1, EMPTY, EMPTY, EMPTY);
+            NOTES(1, 0, 0, 0, 0, EMPTY, 7, 0, 0x80, 0x40, 3, 0x81, 0xc0, 4, 1, EMPTY, EMPTY, EMPTY);
         else
-            NOTES(1, 0, 0, 0, 0, EMPTY, EMPTY, EMPTY, EMPTY, EMPTY); /* ageing alone */
-    NOTES(16, 1, 0, 1, 1, EMPTY, EMPTY, 10, 0, 1, 0x18, 2, 0, 0, 0, 3, 0, 0, 0, EMPTY, EMPTY);
+            NOTES(1, 0, 0, 0, 0, EMPTY, EMPTY, EMPTY, EMPTY, EMPTY); /* ageing alone; posts at the maximum too */
+    NOTES(16, 1, 0, 1, 1, EMPTY, EMPTY, 10, 0, 0x81, 0x18, 2, 0, 0, 0, 3, 0, 0, 0, EMPTY, EMPTY);
     NOTES(16, 1, 0, 1, 1, EMPTY, EMPTY, EMPTY, EMPTY, EMPTY);
-    NOTES(1, 0, 0, 0, 0, EMPTY, EMPTY, 2, 0, 1, 0, EMPTY, EMPTY); /* the record stays, and yet it isn't ageing */
+    NOTES(16, 0, 0, 1, 1, EMPTY, EMPTY, 10, 0, 0x80, 0x18, 0, 0, 0, 0, 0, 0, 0, 0, EMPTY, EMPTY);
+    NOTES(1, 0, 0, 0, 0, EMPTY, EMPTY, EMPTY, EMPTY, EMPTY);    /* counted, and told */
+    NOTES(1, 0, 0, 0, 0, EMPTY, EMPTY, 1, 0, 0, EMPTY, EMPTY); /* counted, and full now */
+    NOTES(1, 0, 0, 0, 0, EMPTY, EMPTY, EMPTY, EMPTY, EMPTY);    /* full before */
 }
 
 static void notes_of_levels_and_bits(void)
@@ -365,17 +371,20 @@ static void notes_of_levels_and_bits(void)
 static void notes_of_messages(void)
 {
     memcpy(&k, &base, sizeof k);
-    NOTES(24, 0, 1, 2, 3, EMPTY, EMPTY, EMPTY, EMPTY, 2, 0, 2, 0);
-    NOTES(26, 2, 5, 9, 0, EMPTY, EMPTY, EMPTY, EMPTY, 2, 0, 2, 0);
-    NOTES(27, 0, 256, 0, 0, EMPTY, EMPTY, EMPTY, EMPTY, 4, 0, 2, 0xc0, 9, 1); /* behind message 0 */
-    NOTES(25, 2, 0, 0, 0, EMPTY, EMPTY, EMPTY, EMPTY, 12, 0, 2, 0x38, 1, 0, 2, 0, 0, 0, 3, 0, 0, 0);
-    NOTES(3, 1, 0, 0, 0, EMPTY, 11, 0, 1, 3, 0xcb, 5, 5, 9, 0, 0, 0, 3, 2, EMPTY, EMPTY,
-          12, 0, 1, 0x38, 1, 0, 2, 0, 0, 0, 3, 0, 0, 0); /* held */
-    NOTES(3, 2, 0, 0, 0, EMPTY, 9, 0, 2, 2, 0x0b, 5, 5, 7, 0, 0, 0, EMPTY, EMPTY,
-          15, 0, 0, 0xfc, 1, 7, 0, 8, 0, 0, 0, 9, 0, 0, 0, 4, 0); /* queued, from another sender */
+    NOTES(24, 0, 1, 2, 3, EMPTY, EMPTY, EMPTY, EMPTY, 1, 0, 2);
+    NOTES(26, 2, 5, 9, 0, EMPTY, EMPTY, EMPTY, EMPTY, 1, 0, 2);
+    NOTES(27, 0, 256, 0, 0, EMPTY, EMPTY, EMPTY, EMPTY, 4, 0, 0x82, 0xc0, 9, 1); /* behind message 0 */
+    NOTES(25, 2, 0, 0, 0, EMPTY, EMPTY, EMPTY, EMPTY, 12, 0, 0x82, 0x38, 1, 0, 2, 0, 0, 0, 3, 0, 0, 0);
+    NOTES(3, 1, 0, 0, 0, EMPTY, 11, 0, 0xc1, 3, 0xcb, 5, 5, 9, 0, 0, 0, 3, 2, EMPTY, EMPTY,
+          12, 0, 0x81, 0x38, 1, 0, 2, 0, 0, 0, 3, 0, 0, 0); /* held */
+    NOTES(3, 2, 0, 0, 0, EMPTY, 9, 0, 0xc2, 2, 0x0b, 5, 5, 7, 0, 0, 0, EMPTY, EMPTY,
+          15, 0, 0x80, 0xfc, 1, 7, 0, 8, 0, 0, 0, 9, 0, 0, 0, 4, 0); /* queued, from another sender */
+    memcpy(&k, &base, sizeof k);
+    EXPECT(same(ask(24, 0, 0, 0, 0), 0, 2, 5));
+    NOTES(26, 2, 4, 1, 0, EMPTY, 4, 0, 0x84, 0x04, 5, 0, EMPTY, EMPTY, 1, 0, 2); /* 4 waited with mask 5 */
 }
 
-/* A log with room for a note of 28 bytes, but for none of 33. */
+/* A log with room for a note of 28 bytes, but for none of 29. */
 static void full_log(void)
 {
     static struct log log;
@@ -389,7 +398,7 @@ static void full_log(void)
     EXPECT(same(call_noted(&k, r, &log), 13, 255, 255) && log.used == LOG_LENGTH && k.uptime == 1);
     undo_last(&k, &log);
     EXPECT(k.uptime == 0 && log.used == LOG_LENGTH - 28);
-    log.used = LOG_LENGTH - 33;
+    log.used = LOG_LENGTH - 29;
     make_record(r, 2, 5, 0, 0, 0);
     EXPECT(same(call_noted(&k, r, &log), 0, 0, 0) && log.used == LOG_LENGTH);
 }

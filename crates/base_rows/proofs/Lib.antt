@@ -1,3 +1,4 @@
 pub mod Codec
+pub mod EntriesRead
 pub mod Fitted
 pub mod RowTurns

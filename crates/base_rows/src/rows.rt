@@ -28,7 +28,7 @@ pub fn flags_of(old: [u32; 8], predicted: [u32; 8]) -> u8
 }
 
 // 0 for a field that is as predicted, else 1.
-fn flag_of(old: u32, predicted: u32) -> u8
+pub fn flag_of(old: u32, predicted: u32) -> u8
     ensures { λ r. ⌜ r ≡ flagOf old predicted ⌝ }
 {
     if old == predicted { 0 } else { 1 }
@@ -98,7 +98,7 @@ fn field_at(s: &[u8], at: usize, w: u8, flags: u8, predicted: u32) -> u32
 }
 
 // How many bytes a field takes: its width where the first flag is set, else none.
-fn taken_by(w: u8, flags: u8) -> u8
+pub fn taken_by(w: u8, flags: u8) -> u8
     ensures { λ r. ⌜ r ≡ taken w flags ⌝ }
 {
     if flags % 2 == 1 { w } else { 0 }

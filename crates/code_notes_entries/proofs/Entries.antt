@@ -1,11 +1,12 @@
 -- The entries of a run of ids, one after another.
 use Prim.Native.Nat.{ℕ, zero, suc, _+_, _-_, _≤_, _<_}
 use mathlib.Core.Path.{_≡_, refl, sym, _∙_}
-use mathlib.Core.Bool.{Bool, true, false, not, cond, _&&_, false≢true}
+use mathlib.Core.Bool.{Bool, true, false, cond, false≢true}
 use mathlib.Core.List.{List, [], _++_}
 use lib.ListN.{length, getD}
 use native.Mathlib.Numerals.{add-one}
 use native.Mathlib.Omega.{arith}
+use borrow.Table.Steps.{cases}
 use Rattle.spec_kernel.specs.Records.{noSemaphore, noEvent, noMessage}
 use Rattle.spec_moves.proofs.Joins.{past-end}
 use Rattle.spec_calls.specs.declared.call.Call.{Call}
@@ -39,13 +40,7 @@ entries-past changed old new d entry {m} {i} n e f z h =
 
 pub no-semaphore : (c : Call) → changedSemaphore c noSemaphore noSemaphore ≡ false
 unfolding sameSemaphore youngerSemaphore
-no-semaphore c = go (is c 1)
-  where
-    go : (b : Bool)
-        → not (sameSemaphore noSemaphore (record { live = false; count = 0; maximum = 0; ticks = cond (b && false) 1 0; period = 0 }))
-        ≡ false
-    go true = refl
-    go false = refl
+no-semaphore c = cases (is c 1) (λ e. rw e) (λ e. rw e)
 
 pub no-event : changedEvent noEvent noEvent ≡ false
 unfolding sameEvent

@@ -1,31 +1,29 @@
 // The events and their bits before a call, of those after it and the note's section.
 ghost use mathlib.Core.Path.{_≡_};
 ghost use mathlib.Core.Bool.{cond};
-ghost use Prim.Native.Nat.{_+_, _≤_};
-ghost use lib.ListN.{length, getD, drop};
-ghost use Rattle.base_rows.specs.Rows.{rowFrom};
+ghost use lib.ListN.{getD, drop};
+ghost use Rattle.base_rows.specs.Entries.{rowIn};
 ghost use Rattle.spec_notes.specs.Rows.{eventFrom, eventWidths};
 ghost use Rattle.spec_notes.specs.Predicted.{predictedEvent};
 ghost use Rattle.spec_notes.specs.Back.{bitChanged, bitsBefore, eventsBefore};
 use crate::event_rows;
 use crate::event_rows::WIDTHS;
 use base_bytes::bytes::byte_at;
-use base_rows::rows::row_at;
-use base_rows::rows::used_by;
+use base_rows::entries::id_in;
+use base_rows::entries::row_in;
+use base_rows::entries::size_in;
 use spec_calls::call::Call;
 use spec_kernel::records::Event;
 use spec_kernel::sizes::EVENTS;
 
-// A record before, of the record after and an entry whose flags stand at a place.
-fn record_at(r: Event, s: &[u8], at: usize) -> Event
-    requires { ⌜ at ≤ length (now s) ⌝ }
+// A record before, of the record after and the entry that these bytes begin with.
+fn record_in(r: Event, e: &[u8]) -> Event
     ensures { λ x. ⌜ x ≡ eventFrom
-        (rowFrom eventWidths (getD (now (s .entry)) at 0) (predictedEvent r) (drop (at + 1) (now (s .entry)))) ⌝ }
+        (rowIn eventWidths (predictedEvent r) (getD (now (e .entry)) 0 0) (drop 1 (now (e .entry)))) ⌝ }
 {
-    let flags = byte_at(s, at);
     let told = event_rows::row_of(r);
     let predicted = told.fields;
-    let row = row_at(s, at + 1, WIDTHS, flags, predicted);
+    let row = row_in(e, WIDTHS, predicted);
     let fields = row.fields;
     event_rows::from_row(fields)
 }
@@ -37,19 +35,19 @@ fn first_entry(s: &[u8]) -> usize
     if byte_at(s, 0) == 8 { 1 } else { 0 }
 }
 
-// Entry by entry: id, flags, fields.
+// Entry by entry.
 pub fn events_before(new: [Event; EVENTS], s: &[u8]) -> [Event; EVENTS]
     ensures { λ x. ⌜ x ≡ eventsBefore new (now (s .entry)) ⌝ }
 {
     let mut a = new;
     let mut p = first_entry(s);
     while p < s.len() {
-        let i = s[p] as usize;
-        let at = p + 1;
-        p = at + 1 + used_by(WIDTHS, byte_at(s, at));
+        let e = &s[p..];
+        p += size_in(e, WIDTHS);
+        let i = id_in(e) as usize;
         if i < EVENTS {
             let r = new[i];
-            a[i] = record_at(r, s, at);
+            a[i] = record_in(r, e);
         }
     }
     a

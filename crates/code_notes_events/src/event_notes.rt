@@ -8,7 +8,7 @@ ghost use Rattle.spec_notes.specs.Sections.{eventNoted, eventEntries, bitNoted}
 use crate::event_rows;
 use crate::event_rows::WIDTHS;
 use base_bytes::pens::put_byte;
-use code_notes_entries::fields::put_fields;
+use base_rows::entries::put_entry;
 use spec_kernel::records::Event;
 use spec_kernel::sizes;
 
@@ -18,10 +18,9 @@ fn put_event(log: &mut [u8], at: usize, i: u8, old: Event, new: Event) -> usize
 {
     let before = event_rows::row_of(old);
     let told = event_rows::row_of(new);
-    let p = put_byte(log, at, i);
     let fields = before.fields;
     let predicted = told.fields;
-    put_fields(log, p, WIDTHS, fields, predicted)
+    put_entry(log, at, i, 0, 0, WIDTHS, fields, predicted)
 }
 
 // The same, where it changed.

@@ -12,7 +12,7 @@ use spec_kernel::records::Event;
 // The widths of these fields, in bytes.
 pub const WIDTHS: [u8; 8] = [1, 4, 4, 0, 0, 0, 0, 0];
 
-// The longest entry: id, flags and every field.
+// The longest entry: head, flags and every field.
 pub const LONGEST: usize = 11;
 
 pub fn row_of(r: Event) -> Row

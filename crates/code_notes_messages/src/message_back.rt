@@ -1,20 +1,20 @@
 // The messages before a call, of those after it and the note's section, with who stood where among those that are posted.
 ghost use mathlib.Core.Path.{_≡_};
-ghost use Prim.Native.Nat.{_+_, _≤_};
 ghost use lib.ListN.{length, getD, drop, set};
 ghost use Rattle.base_queue.specs.Queues.{capacity};
-ghost use Rattle.base_rows.specs.Rows.{rowFrom, fitted};
+ghost use Rattle.base_rows.specs.Rows.{fitted};
+ghost use Rattle.base_rows.specs.Entries.{rowIn};
 ghost use Rattle.spec_notes.specs.Rows.{messageWidths};
 ghost use Rattle.spec_notes.specs.Predicted.{predictedMessage};
 ghost use Rattle.spec_notes.specs.Back.{messagesBefore};
 ghost use Rattle.code_notes_messages.specs.Filed.{filing};
 use crate::message_rows;
 use crate::message_rows::WIDTHS;
-use base_bytes::bytes::byte_at;
 use base_queue::CAPACITY;
+use base_rows::entries::id_in;
+use base_rows::entries::row_in;
+use base_rows::entries::size_in;
 use base_rows::rows::Row;
-use base_rows::rows::row_at;
-use base_rows::rows::used_by;
 use code_kernel_find::by_id;
 use spec_calls::call::Call;
 use spec_kernel::records::Message;
@@ -29,17 +29,15 @@ pub struct Filing {
     pub at: [u8; CAPACITY],
 }
 
-// The row before, of the record after and an entry whose flags stand at a place. It fits its widths.
-fn row_before(c: Call, runner: u8, r: Message, s: &[u8], at: usize) -> Row
-    requires { ⌜ at ≤ length (now s) ⌝ }
+// The row before, of the record after and the entry that these bytes begin with. It fits its widths.
+fn row_before(c: Call, runner: u8, r: Message, e: &[u8]) -> Row
     ensures { λ x. ⌜ (x .fields
-        ≡ rowFrom messageWidths (getD (now (s .entry)) at 0) (predictedMessage c runner r) (drop (at + 1) (now (s .entry))))
+        ≡ rowIn messageWidths (predictedMessage c runner r) (getD (now (e .entry)) 0 0) (drop 1 (now (e .entry))))
         × (fitted messageWidths (x .fields) ≡ x .fields) ⌝ }
 {
-    let flags = byte_at(s, at);
     let told = message_rows::predicted(c, runner, r);
     let predicted = told.fields;
-    row_at(s, at + 1, WIDTHS, flags, predicted)
+    row_in(e, WIDTHS, predicted)
 }
 
 // x stored at a place, where the array has it.
@@ -53,7 +51,7 @@ fn store(a: &mut [u8; CAPACITY], i: u32, x: u8)
     }
 }
 
-// Entry by entry: id, flags, fields; `runner` is who runs after the call.
+// Entry by entry; `runner` is who runs after the call.
 pub fn messages_before(c: Call, runner: u8, new: [Message; sizes::MESSAGES], s: &[u8]) -> Filing
     ensures { λ x. ⌜ filing x ≡ messagesBefore c runner new (now (s .entry)) ⌝ }
 {
@@ -62,10 +60,10 @@ pub fn messages_before(c: Call, runner: u8, new: [Message; sizes::MESSAGES], s: 
     let mut places = [255u8; CAPACITY];
     let mut p: usize = 0;
     while p < s.len() {
-        let m = s[p];
-        let at = p + 1;
-        p = at + 1 + used_by(WIDTHS, byte_at(s, at));
-        let row = row_before(c, runner, by_id::message_at(new, m), s, at);
+        let e = &s[p..];
+        p += size_in(e, WIDTHS);
+        let m = id_in(e);
+        let row = row_before(c, runner, by_id::message_at(new, m), e);
         let fields = row.fields;
         store(&mut out, m as u32, 1);
         store(&mut places, fields[7], m);

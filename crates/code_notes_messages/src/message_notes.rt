@@ -9,9 +9,8 @@ ghost use Rattle.spec_notes.specs.Touched.{changedMessage};
 ghost use Rattle.spec_notes.specs.Sections.{messageNoted, messageEntries};
 use crate::message_rows;
 use crate::message_rows::WIDTHS;
-use base_bytes::pens::put_byte;
 use base_queue::Queue;
-use code_notes_entries::fields::put_fields;
+use base_rows::entries::put_entry;
 use code_notes_entries::old_places::old_place;
 use spec_calls::call::Call;
 use spec_kernel::records::Message;
@@ -33,10 +32,9 @@ fn put_message(
 {
     let before = message_rows::row_of(old, place);
     let told = message_rows::predicted(c, runner, new);
-    let p = put_byte(log, at, m);
     let fields = before.fields;
     let predicted = told.fields;
-    put_fields(log, p, WIDTHS, fields, predicted)
+    put_entry(log, at, m, 0, 0, WIDTHS, fields, predicted)
 }
 
 // The same, where it changed.

@@ -17,7 +17,7 @@ use spec_kernel::records::Message;
 // The widths of these fields, in bytes.
 pub const WIDTHS: [u8; 8] = [1, 1, 1, 2, 4, 4, 1, 1];
 
-// The longest entry: id, flags and every field.
+// The longest entry: head, flags and every field.
 pub const LONGEST: usize = 17;
 
 pub fn row_of(r: Message, place: u8) -> Row

@@ -4,7 +4,7 @@ ghost use Rattle.base_bytes.specs.Pens.{pen, puts};
 ghost use Rattle.spec_notes.specs.Sections.{heldRunner, levelsNoted};
 use crate::scheduler_rows;
 use crate::scheduler_rows::WIDTHS;
-use code_notes_entries::fields::put_unless_predicted;
+use base_rows::entries::put_unless_predicted;
 use spec_calls::call::Call;
 
 // Both levels, and who runs.

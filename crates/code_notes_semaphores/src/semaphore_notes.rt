@@ -7,8 +7,7 @@ ghost use Rattle.spec_notes.specs.Touched.{changedSemaphore};
 ghost use Rattle.spec_notes.specs.Sections.{semaphoreNoted, semaphoreEntries};
 use crate::semaphore_rows;
 use crate::semaphore_rows::WIDTHS;
-use base_bytes::pens::put_byte;
-use code_notes_entries::fields::put_fields;
+use base_rows::entries::put_entry;
 use spec_calls::call::Call;
 use spec_kernel::records::Semaphore;
 use spec_kernel::sizes;
@@ -19,10 +18,9 @@ fn put_semaphore(log: &mut [u8], at: usize, i: u8, c: Call, old: Semaphore, new:
 {
     let before = semaphore_rows::row_of(old);
     let told = semaphore_rows::predicted(c, new);
-    let p = put_byte(log, at, i);
     let fields = before.fields;
     let predicted = told.fields;
-    put_fields(log, p, WIDTHS, fields, predicted)
+    put_entry(log, at, i, 0, 0, WIDTHS, fields, predicted)
 }
 
 // The same, where more than ageing changed it.

@@ -9,7 +9,7 @@ ghost use Rattle.spec_kernel.specs.Conditions.{isReady};
 ghost use Rattle.spec_notes.specs.Rows.{conditionCode, threadCode, fullCode, conditionData, objectCode, wakeCode};
 ghost use Rattle.spec_notes.specs.Rows.{threadRow, threadWidths, conditionFrom, wakeFrom, threadFrom};
 ghost use Rattle.spec_notes.specs.Touched.{sameThread, oneTickMore, youngerThread};
-ghost use Rattle.spec_notes.specs.Predicted.{wasBlocked, predictedThread};
+ghost use Rattle.spec_notes.specs.Predicted.{predictedCode, wasBlocked, blocks, dataNow, predictedThread};
 use base_rows::rows::Row;
 use code_kernel::conditions;
 use code_notes_entries::choices::word;
@@ -84,11 +84,44 @@ fn full_code(r: Thread) -> u8
     if r.live { code } else { 5 + code }
 }
 
-// The widths of a row's fields, in bytes.
-pub const WIDTHS: [u8; 8] = [1, 1, 2, 4, 1, 1, 1, 1];
+// The widths of a row's fields, in bytes, of a thread of this code: a mask has two, an object's id one.
+pub fn widths_of(code: u8) -> [u8; 8]
+    ensures { λ r. ⌜ r ≡ threadWidths code ⌝ }
+{
+    if code == MASKED {
+        return [1, 1, 2, 4, 1, 1, 1, 1];
+    }
+    [1, 1, 1, 4, 1, 1, 1, 1]
+}
 
-// The longest entry: id, code, flags and every field.
+// The code of a thread that waits for a message.
+const MASKED: u8 = 5;
+
+// The longest entry: head, code, flags and every field.
 pub const LONGEST: usize = 15;
+
+// The code of a touched thread before: at a tick by its wake reason, else by the kind.
+pub fn predicted_code(c: Call, r: Thread) -> u8
+    ensures { λ n. ⌜ n ≡ predictedCode c r ⌝ }
+{
+    let kind = c.kind;
+    let wake = r.wake;
+    match kind {
+        1 => wake_code(wake) + 1,
+        2 => 0,
+        4 => code_of(r),
+        5 => code_of(r),
+        19 => 3,
+        20 => 4,
+        22 => 4,
+        23 => 4,
+        26 => 5,
+        28 => 3,
+        29 => 4,
+        30 => 4,
+        _ => 1,
+    }
+}
 
 pub fn row_of(r: Thread, place: u8, due: u8) -> Row
     ensures { λ x. ⌜ x .fields ≡ threadRow r place due ⌝ }
@@ -135,7 +168,7 @@ fn wake_from(code: u8) -> Wake
 
 // The thread of a code and a row; of each field, as much as its width holds.
 pub fn from_row(code: u8, row: [u32; 8]) -> Thread
-    ensures { λ r. ⌜ r ≡ threadFrom code (fitted threadWidths row) ⌝ }
+    ensures { λ r. ⌜ r ≡ threadFrom code (fitted (threadWidths code) row) ⌝ }
 {
     Thread {
         live: code != 0,
@@ -148,9 +181,19 @@ pub fn from_row(code: u8, row: [u32; 8]) -> Thread
     }
 }
 
+// What the thread waits for now, as far as the field of that code goes.
+fn data_now(condition: Condition, code: u8) -> u16
+    ensures { λ r. ⌜ r ≡ dataNow code condition ⌝ }
+{
+    if code == MASKED {
+        return data_of(condition);
+    }
+    data_of(condition) % 256
+}
+
 // What a blocked thread waited for: after a post, the semaphore of the call.
 fn data_before(c: Call, condition: Condition, code: u8) -> u16
-    ensures { λ r. ⌜ r ≡ cond (ltb 2 code) (cond (isOneOf c (19 ∷ 28 ∷ [])) (c .a) (conditionData condition)) 0 ⌝ }
+    ensures { λ r. ⌜ r ≡ cond (ltb 2 code) (cond (isOneOf c (19 ∷ 28 ∷ [])) (c .a) (dataNow code condition)) 0 ⌝ }
 {
     if code <= 2 {
         return 0;
@@ -158,7 +201,7 @@ fn data_before(c: Call, condition: Condition, code: u8) -> u16
     let kind = c.kind;
     match kind {
         19 | 28 => c.a as u16,
-        _ => data_of(condition),
+        _ => data_now(condition, code),
     }
 }
 
@@ -182,14 +225,35 @@ fn was_woken(r: Thread, code: u8) -> bool
     conditions::is_ready(r)
 }
 
-// A thread that was woken had no reason.
-fn wake_before(woken: bool, w: Wake) -> u8
-    ensures { λ r. ⌜ r ≡ cond woken 0 (wakeCode w) ⌝ }
+// Whether a ready thread sleeps or waits now.
+fn has_blocked(r: Thread, code: u8) -> bool
+    ensures { λ b. ⌜ b ≡ blocks code r ⌝ }
+{
+    if code != 1 {
+        return false;
+    }
+    let c = r.condition;
+    !conditions::ready_for(c)
+}
+
+// A thread that was woken had no reason; one that blocks had been met.
+fn wake_before(woken: bool, blocked: bool, w: Wake) -> u8
+    ensures { λ r. ⌜ r ≡ cond woken 0 (cond blocked 1 (wakeCode w)) ⌝ }
 {
     if woken {
         return 0;
     }
+    if blocked {
+        return 1;
+    }
     wake_code(w)
+}
+
+// A thread that wasn't live had no priority.
+fn priority_before(code: u8, priority: u8) -> u8
+    ensures { λ r. ⌜ r ≡ cond (eqb code 0) 0 priority ⌝ }
+{
+    if code == 0 { 0 } else { priority }
 }
 
 // It had no reply, nor had a thread that is gone.
@@ -237,13 +301,14 @@ pub fn predicted(c: Call, r: Thread, code: u8) -> Row
     let condition = r.condition;
     let wake = r.wake;
     let woken = was_woken(r, code);
+    let blocked = has_blocked(r, code);
     Row {
         fields: [
-            r.priority as u32,
-            r.first as u32,
+            priority_before(code, r.priority) as u32,
+            priority_before(code, r.first) as u32,
             data_before(c, condition, code) as u32,
             ticks_before(c, r.ticks, code),
-            wake_before(woken, wake) as u32,
+            wake_before(woken, blocked, wake) as u32,
             reply_before(woken, r, code) as u32,
             place_before(code) as u32,
             due_before(c, code) as u32,

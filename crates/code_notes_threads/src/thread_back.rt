@@ -2,17 +2,19 @@
 ghost use mathlib.Core.Path.{_≡_};
 ghost use mathlib.Core.List.{map};
 ghost use Rattle.spec_notes.specs.Touched.{youngerThread};
-ghost use Rattle.spec_notes.specs.Back.{threadsBefore};
-ghost use Rattle.code_notes_threads.specs.ReadThreads.{meantThreads, withEntry, withMarks, entrySize};
+ghost use lib.ListN.{getD, drop};
+ghost use Rattle.base_rows.specs.Entries.{sizeIn};
+ghost use Rattle.spec_notes.specs.Rows.{threadWidths};
+ghost use Rattle.spec_notes.specs.Back.{codeRead, threadRead, threadsBefore};
+ghost use Rattle.code_notes_threads.specs.ReadThreads.{meantThreads, withMarks};
 use crate::marks::marked;
-use base_bytes::bytes::byte_at;
-use base_bytes::bytes::least;
 use base_queue::CAPACITY;
-use base_rows::rows::row_at;
-use base_rows::rows::used_by;
+use base_rows::entries::code_in;
+use base_rows::entries::id_in;
+use base_rows::entries::row_in;
+use base_rows::entries::size_in;
 use code_kernel_find::by_id;
 use code_notes_thread_rows::thread_rows;
-use code_notes_thread_rows::thread_rows::WIDTHS;
 use spec_calls::call::Call;
 use spec_kernel::records::Thread;
 use spec_kernel::sizes;
@@ -56,26 +58,34 @@ fn put_record(a: Threading, t: u8, r: Thread, place: u32, due: u32) -> Threading
     next
 }
 
-// The first entry of these bytes put back.
-fn entry_back(c: Call, new: [Thread; sizes::THREADS], s: &[u8], a: Threading) -> Threading
-    ensures { λ r. ⌜ meantThreads r ≡ withEntry c new (now (s .entry)) (meantThreads a) ⌝ }
+// The code before of the entry that these bytes begin with.
+fn code_back(c: Call, new: [Thread; sizes::THREADS], e: &[u8]) -> u8
+    ensures { λ r. ⌜ r ≡ codeRead c new (getD (now (e .entry)) 0 0) (drop 1 (now (e .entry))) ⌝ }
 {
-    let t = byte_at(s, 0);
-    let code = byte_at(s, 1);
+    let after = by_id::thread_at(new, id_in(e) as u16);
+    code_in(e, thread_rows::predicted_code(c, after))
+}
+
+// That entry put back.
+fn entry_back(c: Call, new: [Thread; sizes::THREADS], e: &[u8], a: Threading) -> Threading
+    ensures { λ r. ⌜ meantThreads r ≡ threadRead c new (getD (now (e .entry)) 0 0) (drop 1 (now (e .entry))) (meantThreads a) ⌝ }
+{
+    let t = id_in(e);
+    let code = code_back(c, new, e);
     let after = by_id::thread_at(new, t as u16);
     let guess = thread_rows::predicted(c, after, code);
     let guessed = guess.fields;
-    let row = row_at(s, 3, WIDTHS, byte_at(s, 2), guessed);
+    let row = row_in(e, thread_rows::widths_of(code), guessed);
     let fields = row.fields;
     let r = thread_rows::from_row(code, fields);
     put_record(a, t, r, fields[6], fields[7])
 }
 
 // How many bytes it has; no more than there are.
-fn entry_size(s: &[u8]) -> usize
-    ensures { λ r. ⌜ r ≡ entrySize (now (s .entry)) ⌝ }
+fn entry_size(c: Call, new: [Thread; sizes::THREADS], e: &[u8]) -> usize
+    ensures { λ r. ⌜ r ≡ sizeIn (threadWidths (codeRead c new (getD (now (e .entry)) 0 0) (drop 1 (now (e .entry))))) (now (e .entry)) ⌝ }
 {
-    least(3 + used_by(WIDTHS, byte_at(s, 2)), s.len())
+    size_in(e, thread_rows::widths_of(code_back(c, new, e)))
 }
 
 // The threads before, of those after, the call and the section.
@@ -93,7 +103,7 @@ pub fn threads_before(c: Call, new: [Thread; sizes::THREADS], s: &[u8]) -> Threa
     while p < s.len() {
         let e = &s[p..];
         a = entry_back(c, new, e, a);
-        p += entry_size(e);
+        p += entry_size(c, new, e);
     }
     a
 }

@@ -4,13 +4,11 @@ ghost use Rattle.base_bytes.specs.Pens.{pen, puts};
 ghost use Rattle.spec_notes.specs.Touched.{movesInPlace, changedThread};
 ghost use Rattle.spec_notes.specs.Sections.{threadNoted, threadEntries};
 ghost use Rattle.code_notes_threads.specs.ThreadEntries.{entryIn};
-use base_bytes::pens;
 use base_queue::Queue;
+use base_rows::entries::put_entry;
 use code_kernel::records::no_thread;
-use code_notes_entries::fields::put_fields;
 use code_notes_entries::old_places::old_place;
 use code_notes_thread_rows::thread_rows;
-use code_notes_thread_rows::thread_rows::WIDTHS;
 use spec_calls::call::Call;
 use spec_kernel::records::Thread;
 use spec_kernel::sizes::THREADS;
@@ -39,7 +37,7 @@ fn is_touched(t: u8, runner: u8, c: Call, old: Thread, new: Thread) -> bool
     moves_in_place(runner, c, t)
 }
 
-// The entry of thread t: its id, its code before, and what isn't as predicted of its record and its two old places.
+// The entry of thread t: its id, and what isn't as predicted of its code, its record and its two old places.
 fn put_thread(
     log: &mut [u8],
     at: usize,
@@ -57,9 +55,17 @@ fn put_thread(
     let guess = thread_rows::predicted(c, new, code);
     let fields = row.fields;
     let guessed = guess.fields;
-    let p = pens::put_byte(log, at, t);
-    let q = pens::put_byte(log, p, code);
-    put_fields(log, q, WIDTHS, fields, guessed)
+    let told = thread_rows::predicted_code(c, new);
+    put_entry(
+        log,
+        at,
+        t,
+        code,
+        told,
+        thread_rows::widths_of(code),
+        fields,
+        guessed,
+    )
 }
 
 // The entry of an id with its two records, where the call touched it. An id above 255 is nobody's.

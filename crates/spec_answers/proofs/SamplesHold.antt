@@ -3,6 +3,7 @@ use mathlib.Core.Path.{_≡_, refl}
 use mathlib.Core.Bool.{true}
 use Rattle.base_bytes.specs.Bytes.{le, un}
 use Rattle.base_bytes.specs.Logs.{noted}
+use Rattle.base_rows.specs.Entries.{headOf, tailOf, idOf, fieldsFrom, codeIn, flagsIn, rowIn, ownIn, readEntries}
 use Rattle.base_rows.specs.Rows.{flagsOf, bodyOf, usedBy, rowFrom}
 use Rattle.base_queue.specs.Tables.{isPlaced, moved}
 use Rattle.base_queue.specs.Queues.{isTidy}
@@ -27,12 +28,13 @@ use Rattle.spec_rules.specs.Tests.{conditionKept, liveThreadKept, liveSemaphore
 use Rattle.spec_notes.specs.Touched.{sameThread, sameSemaphore, sameEvent, sameMessage, youngerThread, youngerSemaphore, touchedThread}
 use Rattle.spec_notes.specs.Touched.{touchedSemaphore, touchedEvent, touchedMessage}
 use Rattle.spec_notes.specs.Rows.{conditionFrom, wakeFrom, threadFrom, semaphoreFrom, eventFrom, messageFrom}
-use Rattle.spec_notes.specs.Predicted.{predictedThread, predictedSemaphore, predictedMessage, predictedScheduler}
+use Rattle.spec_notes.specs.Predicted.{predictedCode, predictedThread, predictedSemaphore, predictedMessage, predictedScheduler}
 use Rattle.spec_notes.specs.Sections.{threadsSection, semaphoresSection, eventsSection, messagesSection, schedulerSection}
 use Rattle.spec_notes.specs.Notes.{beforeLength, noteOf}
 use Rattle.spec_notes.specs.Frames.{isWhole, firstSection, behindSection, sectionsAt, areWhole, sectionBytes, framesOf}
-use Rattle.spec_notes.specs.Back.{putBackAll, readThreads, threadsBefore, readSemaphores, semaphoresBefore, readEvents, bitsBefore}
-use Rattle.spec_notes.specs.Back.{eventsBefore, readMessages, messagesBefore, levelsBefore, threadsBack, postsBack, beforeAt, stateBefore}
+use Rattle.spec_notes.specs.Back.{putBackAll, threadOwn, threadRead, threadsBefore, semaphoreRead, semaphoresBefore, eventRead}
+use Rattle.spec_notes.specs.Back.{bitsBefore, eventsBefore, messageRead, messagesBefore, levelsBefore, threadsBack, postsBack, beforeAt}
+use Rattle.spec_notes.specs.Back.{stateBefore}
 use Rattle.spec_notes.specs.Undo.{lastLength, hasLast, lastNote}
 use Rattle.spec_notes.specs.Same.{sameQueue, sameNumbers, sameKernel}
 use Rattle.spec_notes.specs.Undoes.{callBytes, backFrom, levelsFit, yieldsAgain, undoesNote, undoes}
@@ -45,7 +47,7 @@ unfolding
     -- base_bytes
     le un noted
     -- base_rows
-    flagsOf bodyOf usedBy rowFrom
+    flagsOf bodyOf usedBy rowFrom headOf tailOf idOf fieldsFrom codeIn flagsIn rowIn ownIn readEntries
     -- base_queue
     isPlaced moved isTidy
     -- spec_kernel
@@ -74,12 +76,12 @@ unfolding
     conditionFrom wakeFrom threadFrom semaphoreFrom eventFrom messageFrom
     sameThread sameSemaphore sameEvent sameMessage youngerThread youngerSemaphore touchedThread touchedSemaphore touchedEvent
     touchedMessage
-    predictedThread predictedSemaphore predictedMessage predictedScheduler
+    predictedCode predictedThread predictedSemaphore predictedMessage predictedScheduler
     threadsSection semaphoresSection eventsSection messagesSection schedulerSection
     beforeLength noteOf
     isWhole firstSection behindSection sectionsAt areWhole sectionBytes framesOf
-    putBackAll readThreads threadsBefore readSemaphores semaphoresBefore readEvents bitsBefore eventsBefore readMessages messagesBefore
-    levelsBefore threadsBack postsBack beforeAt stateBefore
+    putBackAll threadOwn threadRead threadsBefore semaphoreRead semaphoresBefore eventRead bitsBefore eventsBefore messageRead
+    messagesBefore levelsBefore threadsBack postsBack beforeAt stateBefore
     lastLength hasLast lastNote
     sameQueue sameNumbers sameKernel
     callBytes backFrom levelsFit yieldsAgain undoesNote undoes

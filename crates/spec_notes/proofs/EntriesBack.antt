@@ -11,6 +11,7 @@ use lib.Seq.{getD-set-same, getD-set-other, ext-getD}
 use borrow.Author.Tests.{eqb-true, eqb-false}
 use borrow.Table.Steps.{cases}
 use Rattle.base_queue.specs.Tables.{one}
+use Rattle.base_rows.specs.Entries.{readEntries}
 use Rattle.spec_notes.specs.Sections.{entriesFrom}
 
 module _ {A : Type 0} where
@@ -29,27 +30,31 @@ each touched step i zero a = a
 each touched step i (suc n) a = each touched step (suc i) n (cond (touched i) (step i a) a)
 
 -- ---- reading
--- entries that begin with their id, and a reader with fuel that takes one at a time off the bytes
-module _ {A : Type 0} (read : ℕ → List ℕ → A → A) (touched : ℕ → Bool) (entry : ℕ → List ℕ) (step : ℕ → A → A)
-    {tail : ℕ → List ℕ} (begins : (i : ℕ) → entry i ≡ i ∷ tail i)
-    (stop : (a : A) → read zero [] a ≡ a) (end : (n : ℕ) (a : A) → read (suc n) [] a ≡ a)
-    (next : (n i : ℕ) (rest : List ℕ) (a : A) → read (suc n) (entry i ++ rest) a ≡ read n rest (step i a)) where
-  -- it takes them all
-  read-each : (m i n : ℕ) (a : A) → length (entriesFrom touched entry i n) ≤ m
+-- entries that begin with a head, and what one of an id below 64 does, which is a step
+module _ {A : Type 0} (own : ℕ → List ℕ → ℕ) (does : ℕ → List ℕ → A → A) (touched : ℕ → Bool) (entry : ℕ → List ℕ) (step : ℕ → A → A)
+    {head : ℕ → ℕ} {tail : ℕ → List ℕ} (begins : (i : ℕ) → entry i ≡ head i ∷ tail i)
+    (next : (n i : ℕ) (rest : List ℕ) (a : A) → i < 64
+    → readEntries own does (suc n) (entry i ++ rest) a ≡ readEntries own does n rest (step i a)) where
+  abbrev read : ℕ → List ℕ → A → A
+  read = readEntries own does
+
+  -- they are all taken
+  read-each : (m i n : ℕ) (a : A) → i + n ≤ 64 → length (entriesFrom touched entry i n) ≤ m
       → read m (entriesFrom touched entry i n) a ≡ each touched step i n a
-  unfolding each
-  read-each zero i zero a l = stop a
-  read-each (suc m) i zero a l = end m a
-  read-each m i (suc n) a l =
-      cases (touched i) (λ e. rw e (go m (rw (e, begins i, length-append) at l) (λ m′. read-each m′ (suc i) n (step i a))))
-      (λ e. rw e (read-each m (suc i) n a (rw e at l)))
+  unfolding each readEntries
+  read-each zero i zero a b l = refl
+  read-each (suc m) i zero a b l = refl
+  read-each m i (suc n) a b l =
+      cases (touched i)
+      (λ e. rw e (go m (rw (e, begins i, length-append) at l) (λ m′. read-each m′ (suc i) n (step i a) (omega arith))))
+      (λ e. rw e (read-each m (suc i) n a (omega arith) (rw e at l)))
     where
       go : (m : ℕ) → suc (length (tail i)) + length (entriesFrom touched entry (suc i) n) ≤ m
           → ((m′ : ℕ) → length (entriesFrom touched entry (suc i) n) ≤ m′
           → read m′ (entriesFrom touched entry (suc i) n) (step i a) ≡ each touched step (suc i) n (step i a))
           → read m (entry i ++ entriesFrom touched entry (suc i) n) a ≡ each touched step (suc i) n (step i a)
       go zero l r = absurd (omega arith)
-      go (suc m) l r = next m i (entriesFrom touched entry (suc i) n) a ∙ r m (omega arith)
+      go (suc m) l r = next m i (entriesFrom touched entry (suc i) n) a (omega arith) ∙ r m (omega arith)
 
   -- a part of what it reads
   module _ {B : Type 0} (f : A → B) (part : ℕ → B → B) (same : (i : ℕ) (a : A) → f (step i a) ≡ part i (f a)) where
@@ -60,16 +65,18 @@ module _ {A : Type 0} (read : ℕ → List ℕ → A → A) (touched : ℕ → B
         each-part (suc i) n (cond (touched i) (step i a) a)
         ∙ ap (each touched part (suc i) n) (cases (touched i) (λ e. rw e (same i a)) (λ e. rw e))
 
-    pub read-part : (m n : ℕ) (a : A) → length (entriesFrom touched entry 0 n) ≤ m
+    pub read-part : (m n : ℕ) (a : A) → n ≤ 64 → length (entriesFrom touched entry 0 n) ≤ m
         → f (read m (entriesFrom touched entry 0 n) a) ≡ each touched part 0 n (f a)
-    read-part m n a l = ap f (read-each m 0 n a l) ∙ each-part 0 n a
+    read-part m n a b l = ap f (read-each m 0 n a (omega arith) l) ∙ each-part 0 n a
 
--- the first byte is an id
-pub first-below : (touched : ℕ → Bool) (entry : ℕ → List ℕ) {tail : ℕ → List ℕ} → ((i : ℕ) → entry i ≡ i ∷ tail i)
-    → (b i n : ℕ) → 0 < b → i + n ≤ b → getD (entriesFrom touched entry i n) 0 0 < b
-first-below touched entry begins b i zero p l = p
-first-below touched entry begins b i (suc n) p l =
-    cases (touched i) (λ e. rw (e, begins i) (omega arith)) (λ e. rw e (first-below touched entry begins b (suc i) n p (omega arith)))
+-- the first byte is none that no head is
+pub first-other : (touched : ℕ → Bool) (entry : ℕ → List ℕ) {head : ℕ → ℕ} {tail : ℕ → List ℕ} → ((i : ℕ) → entry i ≡ head i ∷ tail i)
+    → (x b : ℕ) → (_≡_ {A = ℕ} 0 x → ⊥) → ((i : ℕ) → i < b → head i ≡ x → ⊥) → (i n : ℕ) → i + n ≤ b
+    → getD (entriesFrom touched entry i n) 0 0 ≡ x → ⊥
+first-other touched entry begins x b z h i zero l = z
+first-other touched entry begins x b z h i (suc n) l =
+    cases (touched i) (λ e. rw (e, begins i) (h i (omega arith)))
+    (λ e. rw e (first-other touched entry begins x b z h (suc i) n (omega arith)))
 
 -- ---- a list in which each sets a place
 module _ {A : Type 0} (touched : ℕ → Bool) (place : ℕ → ℕ) (what : ℕ → A) where

@@ -10,8 +10,10 @@ use lib.ListN.{length, length-append}
 use borrow.Author.Tests.{eq-eqb}
 use borrow.Table.Steps.{cases}
 use Rattle.base_queue.specs.Tables.{one}
-use Rattle.base_rows.specs.Rows.{flagsOf, bodyOf, sum}
+use Rattle.base_rows.specs.Rows.{bodyOf, sum}
+use Rattle.base_rows.specs.Entries.{entryOf}
 use Rattle.base_rows.proofs.Codec.{body-short}
+use Rattle.base_rows.proofs.EntriesRead.{unless-short, tail-short, fields-short}
 use Rattle.spec_kernel.specs.declared.records.Thread.{Thread}
 use Rattle.spec_kernel.specs.declared.records.Semaphore.{Semaphore}
 use Rattle.spec_kernel.specs.declared.records.Event.{Event}
@@ -20,14 +22,15 @@ use Rattle.spec_kernel.specs.declared.records.Kernel.{Kernel}
 use Rattle.spec_kernel.specs.Sizes.{threadCount, semaphoreCount, eventCount, messageCount}
 use Rattle.spec_moves.specs.declared.parts.Threads.{Threads}
 use Rattle.spec_moves.specs.declared.parts.Posts.{Posts}
+use Rattle.spec_moves.specs.Moves.{threadIn}
 use Rattle.spec_moves.specs.Standing.{threadsOf, postsOf, messageIn}
 use Rattle.spec_calls.specs.declared.call.Call.{Call}
 use Rattle.spec_refusals.specs.Refusals.{is}
-use Rattle.spec_notes.specs.Rows.{threadWidths, semaphoreWidths, eventWidths, messageWidths, schedulerWidths}
+use Rattle.spec_notes.specs.Rows.{threadCode, threadWidths, semaphoreWidths, eventWidths, messageWidths, schedulerWidths}
 use Rattle.spec_notes.specs.Predicted.{predictedMessage}
 use Rattle.spec_notes.specs.Sections.{entriesFrom, threadEntry, threadEntries, threadsSection, semaphoreEntry, semaphoreEntries}
 use Rattle.spec_notes.specs.Sections.{semaphoresSection, eventEntry, eventEntries, bitNoted, eventsSection, messageEntry}
-use Rattle.spec_notes.specs.Sections.{messageEntries, messagesSection, unlessPredicted, levelsNoted, schedulerSection}
+use Rattle.spec_notes.specs.Sections.{messageEntries, messagesSection, levelsNoted, schedulerSection}
 use Rattle.spec_notes.proofs.Counting.{countFrom}
 
 -- ---- entries
@@ -87,21 +90,23 @@ body-first : (w o p : ℕ) (ws os ps : List ℕ) → o ≡ p → length (bodyOf 
 unfolding bodyOf
 body-first w o p ws os ps e = rw (eq-eqb o p e) (body-short ws os ps)
 
--- behind two bytes, and behind three
-body-two : (n : ℕ) (ws os ps : List ℕ) → 2 + sum ws ≤ n → suc (suc (length (bodyOf ws os ps))) ≤ n
-body-two n ws os ps h = omega (arith, body-short ws os ps)
+-- the fields of a thread
+widths-twelve : (code : ℕ) → sum (threadWidths code) ≤ 12
+unfolding sum
+widths-twelve code = cases (eqb code 5) (λ e. rw e (omega arith)) (λ e. rw e (omega arith))
 
-body-three : (n : ℕ) (ws os ps : List ℕ) → 3 + sum ws ≤ n → suc (suc (suc (length (bodyOf ws os ps)))) ≤ n
-body-three n ws os ps h = omega (arith, body-short ws os ps)
+-- with a code, and without one
+entry-three : (n : ℕ) (ws : List ℕ) (id code told : ℕ) (os ps : List ℕ) → 3 + sum ws ≤ n → length (entryOf ws id code told os ps) ≤ n
+entry-three n ws id code told os ps h = omega (arith, tail-short ws code told os ps)
 
-body-live : (n w o p : ℕ) (ws os ps : List ℕ) → o ≡ p → 2 + sum ws ≤ n → suc (suc (length (bodyOf (w ∷ ws) (o ∷ os) (p ∷ ps)))) ≤ n
-body-live n w o p ws os ps e h = omega (arith, body-first w o p ws os ps e)
+pub entry-two : (m : ℕ) (ws : List ℕ) (id : ℕ) (os ps : List ℕ) → length (bodyOf ws os ps) ≤ m → length (entryOf ws id 0 0 os ps) ≤ 2 + m
+entry-two m ws id os ps h = omega (arith, fields-short ws os ps m h)
 
 module _ (c : Call) where
   module _ (old : Threads) (new : List Thread) where
     pub thread-entry : (t : ℕ) → length (threadEntry c old new t) ≤ 15
     unfolding sum
-    thread-entry t = body-three 15 threadWidths _ _ (omega arith)
+    thread-entry t = entry-three 15 _ t _ _ _ _ (omega (arith, widths-twelve (threadCode (threadIn old t))))
 
     pub threads-run : (runner i n : ℕ) → length (threadEntries c runner old new i n) ≤ 15 * n
     threads-run runner = entries-each _ (threadEntry c old new) 15 thread-entry
@@ -109,7 +114,7 @@ module _ (c : Call) where
   module _ (old new : List Semaphore) where
     pub semaphore-entry : (i : ℕ) → length (semaphoreEntry c old new i) ≤ 15
     unfolding sum
-    semaphore-entry i = body-two 15 semaphoreWidths _ _ (omega arith)
+    semaphore-entry i = entry-two 13 semaphoreWidths i _ _ (body-short semaphoreWidths _ _)
 
     pub semaphores-run : (i n : ℕ) → length (semaphoreEntries c old new i n) ≤ 15 * n
     semaphores-run = entries-each _ (semaphoreEntry c old new) 15 semaphore-entry
@@ -117,12 +122,12 @@ module _ (c : Call) where
   module _ (runner : ℕ) (old : Posts) (new : List Message) where
     message-entry : (m : ℕ) → length (messageEntry c runner old new m) ≤ 17
     unfolding sum
-    message-entry m = body-two 17 messageWidths _ _ (omega arith)
+    message-entry m = entry-two 15 messageWidths m _ _ (body-short messageWidths _ _)
 
     -- with `live` as predicted
     pub message-entry-live : (m : ℕ) → one (messageIn old m .live) ≡ cond (is c 24) 0 1 → length (messageEntry c runner old new m) ≤ 16
     unfolding predictedMessage sum
-    message-entry-live m e = body-live 16 1 _ _ (1 ∷ 1 ∷ 2 ∷ 4 ∷ 4 ∷ 1 ∷ 1 ∷ []) _ _ e (omega arith)
+    message-entry-live m e = entry-two 14 messageWidths m _ _ (body-first 1 _ _ (1 ∷ 1 ∷ 2 ∷ 4 ∷ 4 ∷ 1 ∷ 1 ∷ []) _ _ e)
 
     pub messages-run : (i n : ℕ) → length (messageEntries c runner old new i n) ≤ 17 * n
     messages-run = entries-each _ (messageEntry c runner old new) 17 message-entry
@@ -130,17 +135,12 @@ module _ (c : Call) where
   -- ---- the levels and the runner
   pub levels-short : (u r t u′ r′ t′ : ℕ) → length (levelsNoted c u r t u′ r′ t′) ≤ 4
   unfolding sum
-  levels-short u r t u′ r′ t′ = short _ _
-    where
-      short : (old predicted : List ℕ) → length (unlessPredicted schedulerWidths old predicted) ≤ 4
-      short old predicted =
-          cases (eqb (flagsOf old predicted) 0) (λ e. rw e (omega arith))
-          (λ e. rw e (omega (arith, body-short schedulerWidths old predicted)))
+  levels-short u r t u′ r′ t′ = unless-short schedulerWidths _ _ 3 (body-short schedulerWidths _ _)
 
 module _ (old new : List Event) where
   pub event-entry : (i : ℕ) → length (eventEntry old new i) ≤ 11
   unfolding sum
-  event-entry i = body-two 11 eventWidths _ _ (omega arith)
+  event-entry i = entry-two 9 eventWidths i _ _ (body-short eventWidths _ _)
 
   pub events-run : (i n : ℕ) → length (eventEntries old new i n) ≤ 11 * n
   events-run = entries-each _ (eventEntry old new) 11 event-entry

@@ -1,13 +1,13 @@
 -- The note of an accepted call has at most 96 + 24 T + 16 S + 16 M bytes.
 use Prim.Native.Nat.{ℕ, _+_, _-_, _*_, _≤_, _<_}
-use mathlib.Core.Path.{_≡_, refl, sym, ap}
-use mathlib.Core.Bool.{Bool, true, false, cond, not, and-false, or-false, false≢true, and-eq-true-iff}
+use mathlib.Core.Path.{_≡_, refl, sym, ap, _∙_}
+use mathlib.Core.Bool.{Bool, true, false, cond, not, _&&_, and-false, or-false, false≢true, and-eq-true-iff}
 use mathlib.Core.List.{List, [], _∷_}
 use native.Mathlib.Nat.{zero-mul, mul-one}
 use native.Mathlib.Omega.{arith}
 use lib.Dec.{eqb, ltb}
 use lib.ListN.{length, getD, length-append}
-use borrow.Author.Tests.{eqb-true, le-ltb, not-false}
+use borrow.Author.Tests.{eqb-true, eq-eqb, le-ltb, not-false}
 use borrow.Table.Steps.{cases}
 use Rattle.base_queue.specs.Tables.{one}
 use Rattle.base_queue.proofs.Counts.{same}
@@ -31,7 +31,8 @@ use Rattle.proof_rules.proofs.Ends.{Before, before}
 use Rattle.proof_rules.proofs.Accepted.{accepted}
 use Rattle.spec_effects.proofs.RulesKept.{rules-kept}
 use Rattle.spec_notes.specs.Rows.{fullCode, threadRow, semaphoreRow, semaphoreWidths}
-use Rattle.spec_notes.specs.Touched.{sameThread, sameSemaphore, youngerThread, youngerSemaphore, movesInPlace}
+use Rattle.spec_notes.specs.Touched.{sameThread, sameSemaphore, youngerThread, countBeforePulse, ticksBeforePulse}
+use Rattle.spec_notes.specs.Touched.{youngerSemaphore, movesInPlace}
 use Rattle.spec_notes.specs.Touched.{touchedThread, touchedSemaphore, touchedEvent, touchedMessage}
 use Rattle.spec_notes.specs.Predicted.{predictedSemaphore}
 use Rattle.spec_notes.specs.Sections.{entriesFrom, threadEntry, semaphoreEntry, eventEntry, eventEntries, messageEntry}
@@ -42,7 +43,7 @@ use Rattle.spec_notes.proofs.RecordsBack.{same-thread, same-semaphore}
 use Rattle.spec_notes.proofs.Counting.{countFrom, sameMessageRecord, threadsDiffer, semaphoresDiffer, messagesDiffer}
 use Rattle.spec_notes.proofs.EntriesShort.{entries-short, entries-but-one, count-none}
 use Rattle.spec_notes.proofs.EntriesShort.{thread-entry, semaphore-entry, event-entry, message-entry-live, bit-short}
-use Rattle.spec_notes.proofs.EntriesShort.{scheduler-short}
+use Rattle.spec_notes.proofs.EntriesShort.{entry-two, scheduler-short}
 use Rattle.spec_notes.proofs.Slight.{Slight, row-same, effect-slight}
 use Rattle.spec_notes.proofs.TickSlight.{Aged, tick-threads, tick-semaphores}
 
@@ -71,6 +72,25 @@ semaphore-now c r o = rw o
 semaphore-still : (c : Call) (r : Semaphore) → r .period ≡ 0 → youngerSemaphore c r ≡ r
 unfolding youngerSemaphore
 semaphore-still c r e = let z : ltb 0 (r .period) ≡ false = le-ltb 0 (r .period) (omega arith) in rw (z, and-false)
+
+-- a full one that a tick posts each time is as it was
+ages-to-itself : (b : Bool) (r : Semaphore) (n t : ℕ) → n ≡ r .count → t ≡ r .ticks
+    → record {
+      live = r .live;
+      count = cond b n (r .count);
+      maximum = r .maximum;
+      ticks = cond b t (r .ticks);
+      period = r .period;
+    }
+    ≡ r
+ages-to-itself true r n t e f = rw (e, f)
+ages-to-itself false r n t e f = refl
+
+semaphore-full : (c : Call) (r : Semaphore) → r .ticks ≡ 1 → r .period ≡ 1 → eqb (r .count) (r .maximum) ≡ true → youngerSemaphore c r ≡ r
+unfolding youngerSemaphore
+semaphore-full c r t p f =
+    let e = eq-eqb (r .ticks) (r .period) (t ∙ sym p) in
+    ages-to-itself (is c 1 && ltb 0 (r .period)) r (countBeforePulse r) (ticksBeforePulse r) (rw (e, f)) (rw e (sym t))
 
 -- only one moves in place
 pub moves-which : (runner : ℕ) (c : Call) (t : ℕ) → movesInPlace runner c t ≡ true → t ≡ cond (is c 6) runner (c .a)
@@ -169,7 +189,7 @@ module _ (k : Kernel) (c : Call) (k′ : Kernel) where
           (thread-entry c (threadsOf k) (k′ .threads)) thread-differs 0 threadCount
 
     module _ (aged : (i : ℕ) → i < semaphoreCount → Aged (semaphore k i) (semaphore k′ i)) where
-      -- whose record is the same had one tick left, as predicted
+      -- whose record is the same had one tick left and isn't full, as predicted
       semaphore-predicted : (i : ℕ) → touchedSemaphore k c k′ i ≡ true → sameSemaphore (semaphore k i) (semaphore k′ i) ≡ true
           → predictedSemaphore c (semaphore k′ i) ≡ semaphoreRow (semaphore k i)
       unfolding touchedSemaphore predictedSemaphore
@@ -181,14 +201,17 @@ module _ (k : Kernel) (c : Call) (k′ : Kernel) where
           let l : r .live ≡ true =
           cases (r .live) (λ l. l) (λ l. absurd (p (ap (λ (x : Semaphore). x .period) (B .core .semaphores i .gone l)))) in
           let b = B .core .semaphores i .living l .ticks .1 (omega (arith, p)) in
-          let one-left : r .ticks ≡ 1 = aged i (live-semaphore (B .core) i l) p b (ap (λ (x : Semaphore). x .ticks) z) in
-          rw (z, e, l, one-left)
+          let (one-left, one-period) = aged i (live-semaphore (B .core) i l) p b (ap (λ (x : Semaphore). x .ticks) z) in
+          cases (eqb (r .count) (r .maximum))
+          (λ f. absurd (false≢true (rw (z, semaphore-full c r one-left one-period f, semaphore-same r) at h)))
+          (λ f. rw (z, e, l, one-left, f))
 
       semaphore-two : (i : ℕ) → touchedSemaphore k c k′ i ≡ true
           → length (semaphoreEntry c (k .semaphores) (k′ .semaphores) i) ≤ 13 * one (semaphoreDiffers i) + 2
       semaphore-two i h =
           cases (sameSemaphore (semaphore k i) (semaphore k′ i))
-          (λ s. rw (s, semaphore-predicted i h s, body-same semaphoreWidths (semaphoreRow (semaphore k i))) (omega arith))
+          (λ s. rw (s, semaphore-predicted i h s)
+          (entry-two 0 semaphoreWidths i _ _ (rw (body-same semaphoreWidths (semaphoreRow (semaphore k i))) (omega arith))))
           (λ s. rw s (semaphore-entry c (k .semaphores) (k′ .semaphores) i))
 
       semaphores-tick : length (semaphoresSection k c k′) ≤ 13 * semaphoresDiffer k k′ + 32

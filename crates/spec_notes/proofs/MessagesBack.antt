@@ -1,8 +1,8 @@
 -- The messages' section, read back: their records, and their places in the channels.
-use Prim.Native.Nat.{ℕ, suc}
+use Prim.Native.Nat.{ℕ, suc, _<_}
 use mathlib.Core.Path.{_≡_, refl, sym, _∙_}
 use mathlib.Core.Bool.{Bool, false}
-use mathlib.Core.List.{List, [], _∷_, _++_}
+use mathlib.Core.List.{List, _++_}
 use native.Mathlib.Nat.{le-refl}
 use native.Mathlib.Omega.{arith}
 use lib.ListN.{set, replicate}
@@ -10,6 +10,8 @@ use borrow.Author.Tests.{not-false}
 use Rattle.base_queue.specs.Queues.{capacity, items}
 use Rattle.base_queue.specs.Tables.{oldPlace}
 use Rattle.base_queue.proofs.Queues.{length-items}
+use Rattle.base_rows.specs.Entries.{ownIn, readEntries}
+use Rattle.base_rows.proofs.EntriesRead.{id-back}
 use Rattle.spec_kernel.specs.declared.records.Kernel.{Kernel}
 use Rattle.spec_kernel.specs.Sizes.{messageCount}
 use Rattle.spec_kernel.specs.Records.{message, noMessage}
@@ -22,10 +24,10 @@ use Rattle.spec_notes.specs.Rows.{messageRow, messageWidths}
 use Rattle.spec_notes.specs.Touched.{touchedMessage}
 use Rattle.spec_notes.specs.Predicted.{predictedMessage}
 use Rattle.spec_notes.specs.Sections.{messageEntry, messagesSection}
-use Rattle.spec_notes.specs.Back.{putBackAll, Filing, readMessages, messagesBefore}
+use Rattle.spec_notes.specs.Back.{putBackAll, Filing, messageRead, messagesBefore}
 use Rattle.spec_notes.specs.Within.{Within}
 use Rattle.spec_notes.specs.LeftAlone.{LeftAlone}
-use Rattle.spec_notes.proofs.RowsBack.{Fit, none, field, row-back, rest-back}
+use Rattle.spec_notes.proofs.RowsBack.{Fit, none, field, entry-row, entry-rest}
 use Rattle.spec_notes.proofs.RecordsBack.{flag-below, message-back, same-message}
 use Rattle.spec_notes.proofs.EntriesBack.{each, read-part, records-back}
 use Rattle.spec_notes.proofs.TablesBack.{place-below, table-back}
@@ -60,11 +62,12 @@ module _ (k : Kernel) (c : Call) (k′ : Kernel) where
         (field (λ _. W .channel m)
         (field (λ _. place-below m (items (k .posted)) (length-items (k .posted) (Z .posted))) none)))))))
 
-    next : (n m : ℕ) (rest : List ℕ) (a : Filing)
-        → readMessages (suc n) c (k′ .runner) (k′ .messages) (entry m ++ rest) a
-        ≡ readMessages n c (k′ .runner) (k′ .messages) rest (step m a)
-    unfolding readMessages
-    next n m rest a = rw (rest-back (_ ∷ []) rest (fits m), row-back rest (fits m), message-back (message k m))
+    next : (n m : ℕ) (rest : List ℕ) (a : Filing) → m < 64
+        → readEntries (ownIn messageWidths) (messageRead c (k′ .runner) (k′ .messages)) (suc n) (entry m ++ rest) a
+        ≡ readEntries (ownIn messageWidths) (messageRead c (k′ .runner) (k′ .messages)) n rest (step m a)
+    unfolding readEntries messageRead
+    next n m rest a b =
+        rw (id-back m 0 0 _ b, entry-rest m 0 0 rest (fits m), entry-row m 0 0 rest (fits m), message-back (message k m))
 
     -- what the section gives, and a part of it
     abbrev read : Filing
@@ -73,11 +76,10 @@ module _ (k : Kernel) (c : Call) (k′ : Kernel) where
     part : {B : Type 0} (f : Filing → B) (put : ℕ → B → B) → ((m : ℕ) (a : Filing) → f (step m a) ≡ put m (f a))
         → f read ≡ each touched put 0 messageCount
         (f (record { messages = k′ .messages; out = replicate capacity 0; at = replicate capacity 255 }))
-    unfolding messagesBefore messagesSection readMessages touchedMessage
+    unfolding messagesBefore messagesSection touchedMessage
     part f put h =
-        read-part (λ n. readMessages n c (k′ .runner) (k′ .messages)) touched entry step (λ _. refl) (λ _. refl)
-        (λ _ _. refl) next f put h
-        _ messageCount _ (le-refl _)
+        read-part (ownIn messageWidths) (messageRead c (k′ .runner) (k′ .messages)) touched entry step (λ _. refl) next f put h
+        _ messageCount _ (omega arith) (le-refl _)
 
     module _ (Z′ : Sized k′) where
       untouched : (m : ℕ) → touched m ≡ false → message k′ m ≡ message k m

@@ -1,17 +1,19 @@
 -- A row, written as the flags and the fields that aren't as predicted, reads back.
 use Prim.Native.Nat.{ℕ, zero, suc, _+_, _*_, _/_, _%_, _^_, _<_}
-use mathlib.Core.Path.{_≡_, refl, ap}
+use mathlib.Core.Path.{_≡_, refl, sym, ap, _∙_}
 use mathlib.Core.Bool.{false}
 use mathlib.Core.List.{List, [], _∷_, _++_, append-assoc}
 use native.Mathlib.Nat.{pow-suc}
 use native.Mathlib.Omega.{arith}
 use lib.Dec.{eqb}
 use lib.ListN.{length, drop, replicate, length-append}
-use lib.Seq.{drop-at, drop-append-add, drop-append-seam}
+use lib.Seq.{drop-at, drop-drop, drop-append-seam}
 use borrow.Author.Tests.{eqb-true}
 use borrow.Table.Steps.{cases}
 use Rattle.base_bytes.specs.Bytes.{le, un}
 use Rattle.base_rows.specs.Rows.{flagsOf, bodyOf, usedBy, rowFrom}
+use Rattle.base_rows.specs.Entries.{headOf, tailOf, fieldsFrom, rowIn, ownIn}
+use Rattle.base_rows.proofs.EntriesRead.{flags-back, fields-back}
 
 -- ---- a number
 length-le : (w x : ℕ) → length (le w x) ≡ w
@@ -63,14 +65,21 @@ used-back (field {w} {o} {p} {ws} {os} {ps} h t) =
     let (z′, f′) = odd (flagsOf os ps) in
     cases (eqb o p) (λ e. rw (e, z, f, used-back t) (omega arith)) (λ e. rw (e, z′, f′, length-append, length-le, used-back t))
 
--- past what stands before the fields, and past them
-pub rest-back : {ws os ps : List ℕ} (h r : List ℕ) → Fit ws os ps
-    → drop (length h + usedBy ws (flagsOf os ps)) (h ++ (bodyOf ws os ps ++ r)) ≡ r
-rest-back {ws} {os} {ps} h r t = rw (used-back t, drop-append-add) (drop-append-seam (bodyOf ws os ps) r)
+-- an entry reads back, and behind it stands what was written behind it
+module _ {ws os ps : List ℕ} (id code told : ℕ) (r : List ℕ) (t : Fit ws os ps) where
+  abbrev head : ℕ
+  head = headOf id code told (flagsOf os ps)
 
--- with no flag there are no fields
-pub body-none : {ws os ps : List ℕ} → Fit ws os ps → flagsOf os ps ≡ 0 → bodyOf ws os ps ≡ []
-unfolding flagsOf bodyOf
-body-none none z = refl
-body-none (field {w} {o} {p} {ws} {os} {ps} h t) z =
-    cases (eqb o p) (λ e. rw e (body-none t (omega (arith, rw e at z)))) (λ e. absurd (omega (arith, rw e at z)))
+  abbrev behind : List ℕ
+  behind = tailOf ws code told os ps ++ r
+
+  pub entry-row : rowIn ws ps head behind ≡ os
+  unfolding rowIn
+  entry-row = rw (flags-back ws id code told os ps r, fields-back ws id code told os ps r) (row-back r t)
+
+  pub entry-rest : drop (ownIn ws head behind) behind ≡ r
+  unfolding ownIn
+  entry-rest =
+      rw (flags-back ws id code told os ps r)
+      (sym (drop-drop (usedBy ws (flagsOf os ps)) (fieldsFrom head) behind)
+      ∙ rw (fields-back ws id code told os ps r, used-back t) (drop-append-seam (bodyOf ws os ps) r))

@@ -1,11 +1,14 @@
 -- The semaphores' section, read back.
-use Prim.Native.Nat.{ℕ, suc}
+use Prim.Native.Nat.{ℕ, suc, _<_}
 use mathlib.Core.Path.{_≡_, refl, sym, _∙_}
 use mathlib.Core.Bool.{Bool, false}
-use mathlib.Core.List.{List, [], _∷_, _++_, map}
+use mathlib.Core.List.{List, _++_, map}
 use native.Mathlib.Nat.{le-refl}
+use native.Mathlib.Omega.{arith}
 use lib.ListN.{set, length-map}
 use borrow.Author.Tests.{not-false}
+use Rattle.base_rows.specs.Entries.{ownIn, readEntries}
+use Rattle.base_rows.proofs.EntriesRead.{id-back}
 use Rattle.spec_kernel.specs.declared.records.Semaphore.{Semaphore}
 use Rattle.spec_kernel.specs.declared.records.Kernel.{Kernel}
 use Rattle.spec_kernel.specs.Sizes.{semaphoreCount}
@@ -16,9 +19,9 @@ use Rattle.spec_notes.specs.Rows.{semaphoreRow, semaphoreWidths}
 use Rattle.spec_notes.specs.Touched.{youngerSemaphore, touchedSemaphore}
 use Rattle.spec_notes.specs.Predicted.{predictedSemaphore}
 use Rattle.spec_notes.specs.Sections.{semaphoreEntry, semaphoresSection}
-use Rattle.spec_notes.specs.Back.{readSemaphores, semaphoresBefore}
+use Rattle.spec_notes.specs.Back.{semaphoreRead, semaphoresBefore}
 use Rattle.spec_notes.specs.Within.{Within}
-use Rattle.spec_notes.proofs.RowsBack.{Fit, field, unused, row-back, rest-back}
+use Rattle.spec_notes.proofs.RowsBack.{Fit, field, unused, entry-row, entry-rest}
 use Rattle.spec_notes.proofs.RecordsBack.{flag-below, semaphore-back, same-semaphore}
 use Rattle.spec_notes.proofs.EntriesBack.{getD-map, read-part, records-back}
 
@@ -39,10 +42,11 @@ module _ (k : Kernel) (c : Call) (k′ : Kernel) (W : Within k) where
       field (λ _. flag-below (semaphore k i .live))
       (field (λ _. W .count i) (field (λ _. W .maximum i) (field (λ _. W .left i) (field (λ _. W .period i) (unused 3)))))
 
-  next : (n i : ℕ) (rest : List ℕ) (a : List Semaphore)
-      → readSemaphores (suc n) c (k′ .semaphores) (entry i ++ rest) a ≡ readSemaphores n c (k′ .semaphores) rest (step i a)
-  unfolding readSemaphores
-  next n i rest a = rw (rest-back (_ ∷ []) rest (fits i), row-back rest (fits i), semaphore-back)
+  next : (n i : ℕ) (rest : List ℕ) (a : List Semaphore) → i < 64
+      → readEntries (ownIn semaphoreWidths) (semaphoreRead c (k′ .semaphores)) (suc n) (entry i ++ rest) a
+      ≡ readEntries (ownIn semaphoreWidths) (semaphoreRead c (k′ .semaphores)) n rest (step i a)
+  unfolding readEntries semaphoreRead
+  next n i rest a b = rw (id-back i 0 0 _ b, entry-rest i 0 0 rest (fits i), entry-row i 0 0 rest (fits i), semaphore-back)
 
   module _ (Z : Sized k) (Z′ : Sized k′) where
     untouched : (i : ℕ) → touched i ≡ false → youngerSemaphore c (semaphore k′ i) ≡ semaphore k i
@@ -50,11 +54,10 @@ module _ (k : Kernel) (c : Call) (k′ : Kernel) (W : Within k) where
     untouched i h = sym (same-semaphore (semaphore k i) (youngerSemaphore c (semaphore k′ i)) (not-false _ h))
 
     pub semaphores-back : semaphoresBefore c (k′ .semaphores) (semaphoresSection k c k′) ≡ k .semaphores
-    unfolding semaphoresBefore semaphoresSection readSemaphores touchedSemaphore
+    unfolding semaphoresBefore semaphoresSection touchedSemaphore
     semaphores-back =
-        read-part (λ n. readSemaphores n c (k′ .semaphores)) touched entry step (λ _. refl) (λ _. refl)
-        (λ _ _. refl) next (λ a. a) step
-        (λ _ _. refl) _ semaphoreCount _ (le-refl _)
+        read-part (ownIn semaphoreWidths) (semaphoreRead c (k′ .semaphores)) touched entry step (λ _. refl) next (λ a. a) step
+        (λ _ _. refl) _ semaphoreCount _ (omega arith) (le-refl _)
         ∙ records-back touched noSemaphore semaphoreCount (k .semaphores) (map (youngerSemaphore c) (k′ .semaphores)) (Z .semaphores)
         (length-map (k′ .semaphores) _ ∙ Z′ .semaphores)
         (λ i b e. getD-map (youngerSemaphore c) (k′ .semaphores) i noSemaphore (rw (Z′ .semaphores) b) ∙ untouched i e)

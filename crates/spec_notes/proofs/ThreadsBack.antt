@@ -1,19 +1,23 @@
 -- The threads' section, read back: their records, and their places in the two tables.
-use Prim.Native.Nat.{ℕ, suc, _<_}
+use Prim.Native.Nat.{ℕ, suc, _^_, _<_}
 use mathlib.Core.Path.{_≡_, refl, sym, _∙_}
-use mathlib.Core.Bool.{Bool, true, false, not, _||_, false≢true}
-use mathlib.Core.List.{List, [], _∷_, _++_, map}
+use mathlib.Core.Bool.{Bool, true, false, cond, not, _||_, false≢true}
+use mathlib.Core.List.{List, _++_, map}
 use native.Mathlib.Nat.{le-refl}
 use native.Mathlib.Omega.{arith}
-use lib.Dec.{ltb}
+use lib.Dec.{eqb, ltb}
 use lib.ListN.{set, replicate, length-map}
+use borrow.Table.Steps.{cases}
 use Rattle.base_queue.specs.Queues.{capacity, items}
 use Rattle.base_queue.specs.Tables.{oldPlace}
 use Rattle.base_queue.proofs.Queues.{length-items}
+use Rattle.base_rows.specs.Entries.{readEntries}
+use Rattle.base_rows.proofs.EntriesRead.{id-back, code-back}
 use Rattle.spec_kernel.specs.declared.records.Condition.{Condition}
 use Rattle.spec_kernel.specs.declared.records.Condition.the-variants.{Ready, Asleep, ForSemaphore, ForEvent, ForMessage}
 use Rattle.spec_kernel.specs.declared.records.Object.{Object}
 use Rattle.spec_kernel.specs.declared.records.Wake.{Wake}
+use Rattle.spec_kernel.specs.declared.records.Thread.{Thread}
 use Rattle.spec_kernel.specs.declared.records.Kernel.{Kernel}
 use Rattle.spec_kernel.specs.Sizes.{threadCount}
 use Rattle.spec_kernel.specs.Records.{thread, noThread}
@@ -24,24 +28,40 @@ use Rattle.spec_rules.proofs.FromRules.{standing}
 use Rattle.spec_calls.specs.declared.call.Call.{Call}
 use Rattle.proof_rules.proofs.Core.{Core, Fits, untrue, live-semaphore, condition-of}
 use Rattle.proof_rules.proofs.Ends.{before}
-use Rattle.spec_notes.specs.Rows.{threadCode, threadRow, threadWidths, wakeCode}
+use Rattle.spec_notes.specs.Rows.{conditionCode, threadCode, conditionData, threadRow, threadWidths, wakeCode}
 use Rattle.spec_notes.specs.Touched.{youngerThread, touchedThread}
-use Rattle.spec_notes.specs.Predicted.{predictedThread}
+use Rattle.spec_notes.specs.Predicted.{predictedCode, predictedThread}
 use Rattle.spec_notes.specs.Sections.{threadEntry, threadsSection}
-use Rattle.spec_notes.specs.Back.{putBackAll, Threading, readThreads, threadsBefore}
+use Rattle.spec_notes.specs.Back.{putBackAll, Threading, threadOwn, threadRead, threadsBefore}
 use Rattle.spec_notes.specs.Within.{Within}
 use Rattle.spec_notes.specs.LeftAlone.{LeftAlone}
-use Rattle.spec_notes.proofs.RowsBack.{Fit, none, field, row-back, rest-back}
-use Rattle.spec_notes.proofs.RecordsBack.{ByteId, thread-back, same-thread}
+use Rattle.spec_notes.proofs.RowsBack.{Fit, none, field, entry-row, entry-rest}
+use Rattle.spec_notes.proofs.RecordsBack.{ByteId, Dead, thread-back, same-thread}
 use Rattle.spec_notes.proofs.EntriesBack.{getD-map, each, read-part, records-back}
 use Rattle.spec_notes.proofs.TablesBack.{place-below, table-back}
 
+pub wake-small : (w : Wake) → wakeCode w < 5
+wake-small Wake.None = omega arith
+wake-small Wake.Met = omega arith
+wake-small (Wake.TimedOut Object.Semaphore) = omega arith
+wake-small (Wake.TimedOut Object.Event) = omega arith
+wake-small (Wake.TimedOut Object.Message) = omega arith
+
 pub wake-below : (w : Wake) → wakeCode w < 256
-wake-below Wake.None = omega arith
-wake-below Wake.Met = omega arith
-wake-below (Wake.TimedOut Object.Semaphore) = omega arith
-wake-below (Wake.TimedOut Object.Event) = omega arith
-wake-below (Wake.TimedOut Object.Message) = omega arith
+wake-below w = omega (arith, wake-small w)
+
+-- what a thread waits for fits the field of its code
+data-fits : (r : Thread) → Dead r → ByteId (r .condition) → conditionData (r .condition) < 65536
+    → conditionData (r .condition) < 256 ^ cond (eqb (threadCode r) 5) 2 1
+data-fits r dead b h =
+    cases (r .live) (λ e. rw e (go (r .condition) b h)) (λ e. rw (dead e) (omega arith))
+  where
+    go : (x : Condition) → ByteId x → conditionData x < 65536 → conditionData x < 256 ^ cond (eqb (conditionCode x) 5) 2 1
+    go Ready b h = omega arith
+    go Asleep b h = omega arith
+    go (ForSemaphore i) b h = b
+    go (ForEvent i) b h = b
+    go (ForMessage mask) b h = h
 
 -- one that isn't touched is the same
 neither : (a b : Bool) → (not a || b) ≡ false → a ≡ true
@@ -66,20 +86,6 @@ module _ (k : Kernel) (c : Call) (k′ : Kernel) where
       }
 
   module _ (Z : Sized k) (R : Rules k) (W : Within k) where
-    fits : (t : ℕ)
-        → Fit threadWidths (threadRow (thread k t) (oldPlace t (items (k .places))) (oldPlace t (items (k .time))))
-        (predictedThread c (thread k′ t) (threadCode (thread k t)))
-    unfolding predictedThread
-    fits t =
-        field (λ _. W .priority t)
-        (field (λ _. W .first t)
-        (field (λ _. W .what t)
-        (field (λ _. W .ticks t)
-        (field (λ _. wake-below (thread k t .wake))
-        (field (λ _. W .reply t)
-        (field (λ _. place-below t (items (k .places)) (length-items (k .places) (Z .places)))
-        (field (λ _. place-below t (items (k .time)) (length-items (k .time) (Z .time))) none)))))))
-
     -- a live semaphore's id is a byte, and so is an event's
     byte-id : (t : ℕ) → ByteId (thread k t .condition)
     byte-id t =
@@ -93,11 +99,35 @@ module _ (k : Kernel) (c : Call) (k′ : Kernel) where
         go C (ForEvent i) h = omega arith
         go C (ForMessage mask) h = tt
 
-    next : (n t : ℕ) (rest : List ℕ) (a : Threading)
-        → readThreads (suc n) c (k′ .threads) (entry t ++ rest) a ≡ readThreads n c (k′ .threads) rest (step t a)
-    unfolding readThreads DeadThreads
-    next n t rest a =
-        rw (rest-back (_ ∷ _ ∷ []) rest (fits t), row-back rest (fits t), thread-back (thread k t) _ _ (R .deadThreads t) (byte-id t))
+    fits : (t : ℕ)
+        → Fit (threadWidths (threadCode (thread k t)))
+        (threadRow (thread k t) (oldPlace t (items (k .places))) (oldPlace t (items (k .time))))
+        (predictedThread c (thread k′ t) (threadCode (thread k t)))
+    unfolding predictedThread DeadThreads
+    fits t =
+        field (λ _. W .priority t)
+        (field (λ _. W .first t)
+        (field (λ _. data-fits (thread k t) (R .deadThreads t) (byte-id t) (W .what t))
+        (field (λ _. W .ticks t)
+        (field (λ _. wake-below (thread k t .wake))
+        (field (λ _. W .reply t)
+        (field (λ _. place-below t (items (k .places)) (length-items (k .places) (Z .places)))
+        (field (λ _. place-below t (items (k .time)) (length-items (k .time) (Z .time))) none)))))))
+
+    next : (n t : ℕ) (rest : List ℕ) (a : Threading) → t < 64
+        → readEntries (threadOwn c (k′ .threads)) (threadRead c (k′ .threads)) (suc n) (entry t ++ rest) a
+        ≡ readEntries (threadOwn c (k′ .threads)) (threadRead c (k′ .threads)) n rest (step t a)
+    unfolding readEntries threadOwn threadRead DeadThreads
+    next n t rest a b =
+        let code = threadCode (thread k t) in
+        let told = predictedCode c (thread k′ t) in
+        rw (
+          id-back t code told _ b,
+          code-back (threadWidths code) t code told _ _ rest,
+          entry-rest t code told rest (fits t),
+          entry-row t code told rest (fits t),
+          thread-back (thread k t) _ _ (R .deadThreads t) (byte-id t),
+        )
 
     -- what the section gives, and a part of it
     abbrev read : Threading
@@ -112,10 +142,10 @@ module _ (k : Kernel) (c : Call) (k′ : Kernel) where
           at = replicate capacity 255;
           due = replicate capacity 255;
         }))
-    unfolding threadsBefore threadsSection readThreads touchedThread
+    unfolding threadsBefore threadsSection touchedThread
     part f put h =
-        read-part (λ n. readThreads n c (k′ .threads)) touched entry step (λ _. refl) (λ _. refl)
-        (λ _ _. refl) next f put h _ threadCount _ (le-refl _)
+        read-part (threadOwn c (k′ .threads)) (threadRead c (k′ .threads)) touched entry step (λ _. refl) next f put h
+        _ threadCount _ (omega arith) (le-refl _)
 
     out : read .out ≡ each touched (λ t l. set l t 1) 0 threadCount (replicate capacity 0)
     out = part (λ a. a .out) (λ t l. set l t 1) (λ _ _. refl)

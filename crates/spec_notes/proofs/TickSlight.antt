@@ -1,4 +1,4 @@
--- What a tick does to ticks: a thread has fewer, or none; a periodic semaphore has one less, unless it had one left.
+-- What a tick does to ticks: a thread has fewer, or none; a periodic semaphore has one less, or its period where it had one left.
 use Prim.Native.Nat.{ℕ, zero, suc, _+_, _-_, _≤_, _<_}
 use mathlib.Core.Path.{_≡_, refl, ap, _∙_}
 use mathlib.Core.Bool.{false}
@@ -84,16 +84,24 @@ module _ (i : ℕ) where
   pulses-other j zero u b = refl
   pulses-other j (suc n) u b = pulses-other (suc j) n (pulse j u) (omega arith) ∙ pulse-other j u (λ z. omega arith)
 
--- a periodic one whose ticks are as they were had one left
+-- a periodic one whose ticks are as they were had one left, and gets one
 abbrev pub Aged : Semaphore → Semaphore → Type 0
-Aged s r = (s .period ≡ 0 → ⊥) → 0 < s .ticks → r .ticks ≡ s .ticks → s .ticks ≡ 1
+Aged s r = (s .period ≡ 0 → ⊥) → 0 < s .ticks → r .ticks ≡ s .ticks → (s .ticks ≡ 1) × (s .period ≡ 1)
 
 pulse-own : (i : ℕ) (u : Kernel) → Aged (semaphore u i) (semaphore (pulse i u) i)
 unfolding pulse
 pulse-own i u p b h =
-    cases (eqb (semaphore u i .ticks) 1) (eqb-true (semaphore u i .ticks) 1)
-    (λ f. let e : eqb (semaphore u i .period) 0 ≡ false = ne-eqb (semaphore u i .period) 0 p in
-    cases (ltb i (length (u .semaphores)))
+    let e : eqb (semaphore u i .period) 0 ≡ false = ne-eqb (semaphore u i .period) 0 p in
+    let v = post i u .semaphores in
+    cases (eqb (semaphore u i .ticks) 1)
+    (λ f. let o = eqb-true (semaphore u i .ticks) 1 f in
+    cases (ltb i (length v))
+    (λ g. let z : semaphore u i .period ≡ semaphore u i .ticks =
+    rw (e, f, getD-set-same v i _ noSemaphore (ltb-true i (length v) g)) at h in
+    (o, z ∙ o))
+    (λ g. let l = ltb-false i (length v) g in
+    let z = rw (e, f, set-out v i _ l, List·getD-eq-default v noSemaphore l) at h in absurd (omega arith)))
+    (λ f. cases (ltb i (length (u .semaphores)))
     (λ g. let l = ltb-true i (length (u .semaphores)) g in
     let z = rw (e, f, getD-set-same (u .semaphores) i _ noSemaphore l) at h in absurd (omega arith))
     (λ g. absurd (p (ap (λ (s : Semaphore). s .period) (List·getD-eq-default (u .semaphores) noSemaphore (ltb-false i (length

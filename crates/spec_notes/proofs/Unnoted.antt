@@ -20,7 +20,8 @@ use Rattle.spec_calls.specs.declared.call.Call.{Call}
 use Rattle.spec_refusals.specs.Refusals.{is}
 use Rattle.spec_notes.specs.Touched.{youngerThread}
 use Rattle.spec_notes.specs.Notes.{threadsIn, messagesIn}
-use Rattle.spec_notes.specs.Back.{merge, putBackAll, readThreads, threadsBefore, readMessages, messagesBefore, threadsBack, postsBack}
+use Rattle.base_rows.specs.Entries.{readEntries}
+use Rattle.spec_notes.specs.Back.{merge, putBackAll, threadsBefore, messagesBefore, threadsBack, postsBack}
 use Rattle.spec_notes.specs.Back.{beforeAt, stateBefore}
 use Rattle.spec_notes.proofs.Lengths.{younger-now}
 
@@ -53,7 +54,7 @@ map-same f h (r ∷ l) = rw (h r, map-same f h l)
 -- ---- the parts that move
 threads-stay : (c : Call) (p : Threads) → is c 1 ≡ false → length (p .places .at) ≡ capacity → length (p .time .at) ≡ capacity
     → Tidy (p .places) → Tidy (p .time) → threadsBack c p [] ≡ p
-unfolding threadsBack threadsBefore readThreads
+unfolding threadsBack threadsBefore readEntries
 threads-stay c p o s t tidy tidied =
     let records = map-same (youngerThread c) (λ r. younger-now c r o) (p .records) in
     let places = unmoved (p .places) s tidy in
@@ -61,7 +62,7 @@ threads-stay c p o s t tidy tidied =
     λ i. record { records = records i; places = places i; time = time i }
 
 posts-stay : (c : Call) (runner : ℕ) (p : Posts) → length (p .posted .at) ≡ capacity → Tidy (p .posted) → postsBack c runner p [] ≡ p
-unfolding postsBack messagesBefore readMessages
+unfolding postsBack messagesBefore readEntries
 posts-stay c runner p s tidy =
     let posted = unmoved (p .posted) s tidy in
     λ i. record { records = p .records; posted = posted i }

@@ -21,7 +21,8 @@ use Rattle.spec_notes.specs.Notes.{sectionsOf}
 use Rattle.spec_notes.specs.Back.{levelsBefore, threadsBack, postsBack, beforeAt, stateBefore}
 use Rattle.spec_notes.specs.Within.{Within}
 use Rattle.spec_notes.specs.LeftAlone.{LeftAlone}
-use Rattle.spec_notes.proofs.RowsBack.{Fit, field, unused, row-back, body-none}
+use Rattle.base_rows.proofs.EntriesRead.{body-none}
+use Rattle.spec_notes.proofs.RowsBack.{Fit, field, unused, row-back}
 use Rattle.spec_notes.proofs.ThreadsBack.{threads-back, places-back, time-back}
 use Rattle.spec_notes.proofs.SemaphoresBack.{semaphores-back}
 use Rattle.spec_notes.proofs.EventsBack.{bits-back, events-back}
@@ -49,7 +50,7 @@ module _ (k : Kernel) (c : Call) (k′ : Kernel) (W : Within k) where
   scheduler-back =
       cases (eqb (flagsOf old (predictedScheduler c k′)) 0)
       (λ e. let z = eqb-true (flagsOf old (predictedScheduler c k′)) 0 e in
-      rw e (rw (z, body-none fits z) at (row-back [] fits)))
+      rw e (rw (z, body-none schedulerWidths old (predictedScheduler c k′) z) at (row-back [] fits)))
       (λ e. rw e (rw append-nil at (row-back [] fits)))
 
 -- ---- all of it

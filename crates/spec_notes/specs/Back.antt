@@ -1,5 +1,5 @@
 -- The way back: the state before, of the state after, the call and the note's sections, whatever they hold.
-use Prim.Native.Nat.{ℕ, zero, suc, _+_, _-_}
+use Prim.Native.Nat.{ℕ, zero, suc, _-_}
 use mathlib.Core.Bool.{Bool, cond}
 use mathlib.Core.List.{List, [], _∷_, map}
 use lib.Dec.{eqb}
@@ -8,7 +8,8 @@ use Rattle.base_queue.specs.declared.Queue.{Queue}
 use Rattle.base_queue.specs.Lists.{keep}
 use Rattle.base_queue.specs.Queues.{capacity, items, pack}
 use Rattle.base_bits.specs.Words.{bitAt, withBit, withoutBit}
-use Rattle.base_rows.specs.Rows.{usedBy, rowFrom}
+use Rattle.base_rows.specs.Rows.{rowFrom}
+use Rattle.base_rows.specs.Entries.{idOf, codeIn, rowIn, ownIn, readEntries}
 use Rattle.spec_kernel.specs.declared.records.Thread.{Thread}
 use Rattle.spec_kernel.specs.declared.records.Semaphore.{Semaphore}
 use Rattle.spec_kernel.specs.declared.records.Event.{Event}
@@ -24,7 +25,8 @@ use Rattle.spec_refusals.specs.Refusals.{is}
 use Rattle.spec_notes.specs.Rows.{threadFrom, threadWidths, semaphoreFrom, semaphoreWidths}
 use Rattle.spec_notes.specs.Rows.{eventFrom, eventWidths, messageFrom, messageWidths, schedulerWidths}
 use Rattle.spec_notes.specs.Touched.{youngerThread, youngerSemaphore}
-use Rattle.spec_notes.specs.Predicted.{predictedThread, predictedSemaphore, predictedEvent, predictedMessage, predictedLevels}
+use Rattle.spec_notes.specs.Predicted.{predictedCode, predictedThread, predictedSemaphore, predictedEvent, predictedMessage}
+use Rattle.spec_notes.specs.Predicted.{predictedLevels}
 use Rattle.spec_notes.specs.Notes.{schedulerIn, threadsIn, semaphoresIn, eventsIn, messagesIn}
 
 -- ---- a table of places: who was touched is out, and back at its old place
@@ -57,19 +59,23 @@ threadBack t code row a =
       due = set (a .due) (getD row 7 0) t;
     }
 
--- entry by entry: id, code, flags, fields; `new` are the records after the call
-unfoldable pub readThreads : ℕ → Call → List Thread → List ℕ → Threading → Threading
-readThreads zero c new s a = a
-readThreads (suc n) c new [] a = a
-readThreads (suc n) c new (t ∷ s) a =
-    readThreads n c new (drop (2 + usedBy threadWidths (getD s 1 0)) s)
-    (threadBack t (getD s 0 0)
-    (rowFrom threadWidths (getD s 1 0) (predictedThread c (getD new t noThread) (getD s 0 0)) (drop 2 s))
-    a)
+-- an entry: its code, how many bytes are its own, and what it puts back; `new` are the records after the call
+abbrev pub codeRead : Call → List Thread → ℕ → List ℕ → ℕ
+codeRead c new head s = codeIn (predictedCode c (getD new (idOf head) noThread)) head s
+
+unfoldable pub threadOwn : Call → List Thread → ℕ → List ℕ → ℕ
+threadOwn c new head s = ownIn (threadWidths (codeRead c new head s)) head s
+
+unfoldable pub threadRead : Call → List Thread → ℕ → List ℕ → Threading → Threading
+threadRead c new head s a =
+    let code = codeRead c new head s in
+    threadBack (idOf head) code
+    (rowIn (threadWidths code) (predictedThread c (getD new (idOf head) noThread) code) head s)
+    a
 
 unfoldable pub threadsBefore : Call → List Thread → List ℕ → Threading
 threadsBefore c new s =
-    readThreads (length s) c new s
+    readEntries (threadOwn c new) (threadRead c new) (length s) s
     (record {
       threads = map (youngerThread c) new;
       out = replicate capacity 0;
@@ -78,25 +84,19 @@ threadsBefore c new s =
     })
 
 -- ---- semaphores
-unfoldable pub readSemaphores : ℕ → Call → List Semaphore → List ℕ → List Semaphore → List Semaphore
-readSemaphores zero c new s a = a
-readSemaphores (suc n) c new [] a = a
-readSemaphores (suc n) c new (i ∷ s) a =
-    readSemaphores n c new (drop (1 + usedBy semaphoreWidths (getD s 0 0)) s)
-    (set a i
-    (semaphoreFrom
-    (rowFrom semaphoreWidths (getD s 0 0) (predictedSemaphore c (getD new i noSemaphore)) (drop 1 s))))
+unfoldable pub semaphoreRead : Call → List Semaphore → ℕ → List ℕ → List Semaphore → List Semaphore
+semaphoreRead c new head s a =
+    set a (idOf head)
+    (semaphoreFrom (rowIn semaphoreWidths (predictedSemaphore c (getD new (idOf head) noSemaphore)) head s))
 
 unfoldable pub semaphoresBefore : Call → List Semaphore → List ℕ → List Semaphore
-semaphoresBefore c new s = readSemaphores (length s) c new s (map (youngerSemaphore c) new)
+semaphoresBefore c new s =
+    readEntries (ownIn semaphoreWidths) (semaphoreRead c new) (length s) s (map (youngerSemaphore c) new)
 
 -- ---- events and bits
-unfoldable pub readEvents : ℕ → List Event → List ℕ → List Event → List Event
-readEvents zero new s a = a
-readEvents (suc n) new [] a = a
-readEvents (suc n) new (i ∷ s) a =
-    readEvents n new (drop (1 + usedBy eventWidths (getD s 0 0)) s)
-    (set a i (eventFrom (rowFrom eventWidths (getD s 0 0) (predictedEvent (getD new i noEvent)) (drop 1 s))))
+unfoldable pub eventRead : List Event → ℕ → List ℕ → List Event → List Event
+eventRead new head s a =
+    set a (idOf head) (eventFrom (rowIn eventWidths (predictedEvent (getD new (idOf head) noEvent)) head s))
 
 -- the section begins with 8: bit a was the other way
 abbrev pub bitChanged : List ℕ → Bool
@@ -107,7 +107,8 @@ bitsBefore c bits s =
     cond (bitChanged s) (cond (bitAt bits (c .a)) (withoutBit bits (c .a)) (withBit bits (c .a))) bits
 
 unfoldable pub eventsBefore : List Event → List ℕ → List Event
-eventsBefore new s = readEvents (length s) new (drop (cond (bitChanged s) 1 0) s) new
+eventsBefore new s =
+    readEntries (ownIn eventWidths) (eventRead new) (length s) (drop (cond (bitChanged s) 1 0) s) new
 
 -- ---- messages
 pub record Filing : Type 0 where
@@ -123,18 +124,13 @@ messageBack m row a =
       at = set (a .at) (getD row 7 0) m;
     }
 
-unfoldable pub readMessages : ℕ → Call → ℕ → List Message → List ℕ → Filing → Filing
-readMessages zero c runner new s a = a
-readMessages (suc n) c runner new [] a = a
-readMessages (suc n) c runner new (m ∷ s) a =
-    readMessages n c runner new (drop (1 + usedBy messageWidths (getD s 0 0)) s)
-    (messageBack m
-    (rowFrom messageWidths (getD s 0 0) (predictedMessage c runner (getD new m noMessage)) (drop 1 s))
-    a)
+unfoldable pub messageRead : Call → ℕ → List Message → ℕ → List ℕ → Filing → Filing
+messageRead c runner new head s a =
+    messageBack (idOf head) (rowIn messageWidths (predictedMessage c runner (getD new (idOf head) noMessage)) head s) a
 
 unfoldable pub messagesBefore : Call → ℕ → List Message → List ℕ → Filing
 messagesBefore c runner new s =
-    readMessages (length s) c runner new s
+    readEntries (ownIn messageWidths) (messageRead c runner new) (length s) s
     (record { messages = new; out = replicate capacity 0; at = replicate capacity 255 })
 
 -- ---- the scheduler

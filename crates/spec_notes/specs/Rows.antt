@@ -57,8 +57,9 @@ abbrev pub threadRow : Thread → ℕ → ℕ → List ℕ
 threadRow r place due =
     r .priority ∷ r .first ∷ conditionData (r .condition) ∷ r .ticks ∷ wakeCode (r .wake) ∷ r .reply ∷ place ∷ due ∷ []
 
-abbrev pub threadWidths : List ℕ
-threadWidths = 1 ∷ 1 ∷ 2 ∷ 4 ∷ 1 ∷ 1 ∷ 1 ∷ 1 ∷ []
+-- of a thread of this code: a mask has two bytes, an object's id one
+abbrev pub threadWidths : ℕ → List ℕ
+threadWidths code = 1 ∷ 1 ∷ cond (eqb code 5) 2 1 ∷ 4 ∷ 1 ∷ 1 ∷ 1 ∷ 1 ∷ []
 
 -- an object's id is a byte, whatever the row holds
 unfoldable pub conditionFrom : ℕ → ℕ → Condition

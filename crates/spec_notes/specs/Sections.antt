@@ -7,7 +7,7 @@ use lib.Dec.{eqb}
 use lib.ListN.{getD}
 use Rattle.base_queue.specs.Tables.{oldPlace}
 use Rattle.base_queue.specs.Queues.{items}
-use Rattle.base_rows.specs.Rows.{flagsOf, bodyOf}
+use Rattle.base_rows.specs.Entries.{unlessPredicted, entryOf}
 use Rattle.spec_kernel.specs.declared.records.Thread.{Thread}
 use Rattle.spec_kernel.specs.declared.records.Semaphore.{Semaphore}
 use Rattle.spec_kernel.specs.declared.records.Event.{Event}
@@ -23,24 +23,20 @@ use Rattle.spec_calls.specs.declared.call.Call.{Call}
 use Rattle.spec_notes.specs.Rows.{threadCode, threadRow, threadWidths, semaphoreRow, semaphoreWidths}
 use Rattle.spec_notes.specs.Rows.{eventRow, eventWidths, messageRow, messageWidths, schedulerRow, schedulerWidths}
 use Rattle.spec_notes.specs.Touched.{changedThread, changedSemaphore, changedEvent, changedMessage}
-use Rattle.spec_notes.specs.Predicted.{predictedThread, predictedSemaphore, predictedEvent, predictedMessage, predictedLevels}
+use Rattle.spec_notes.specs.Predicted.{predictedCode, predictedThread, predictedSemaphore, predictedEvent, predictedMessage}
+use Rattle.spec_notes.specs.Predicted.{predictedLevels}
 
 -- the entries of the touched ones of n ids from i on
 abbrev pub entriesFrom : (ℕ → Bool) → (ℕ → List ℕ) → ℕ → ℕ → List ℕ
 entriesFrom touched entry i zero = []
 entriesFrom touched entry i (suc n) = let r = entriesFrom touched entry (suc i) n in cond (touched i) (entry i ++ r) r
 
--- the flags of what isn't as predicted, and those fields
-abbrev pub flagsAndFields : List ℕ → List ℕ → List ℕ → List ℕ
-flagsAndFields widths old predicted = flagsOf old predicted ∷ bodyOf widths old predicted
-
 -- ---- threads
--- a thread before: its id, its code, and what isn't as predicted of its record and its two places
+-- a thread before: its id, and what isn't as predicted of its code, its record and its two places
 abbrev pub threadNoted : ℕ → Call → Thread → ℕ → ℕ → Thread → List ℕ
 threadNoted t c old place due new =
-    t
-    ∷ threadCode old
-    ∷ flagsAndFields threadWidths (threadRow old place due) (predictedThread c new (threadCode old))
+    entryOf (threadWidths (threadCode old)) t (threadCode old) (predictedCode c new) (threadRow old place due)
+    (predictedThread c new (threadCode old))
 
 abbrev pub threadEntry : Call → Threads → List Thread → ℕ → List ℕ
 threadEntry c old new t =
@@ -55,9 +51,9 @@ unfoldable pub threadsSection : Kernel → Call → Kernel → List ℕ
 threadsSection k c k′ = threadEntries c (k .runner) (threadsOf k) (k′ .threads) 0 threadCount
 
 -- ---- semaphores
--- a semaphore before: its id, and what isn't as predicted of its record; an event likewise
+-- a semaphore before: its id, and what isn't as predicted of its record; an event likewise. Neither has a code, which is as if predicted
 abbrev pub semaphoreNoted : ℕ → Call → Semaphore → Semaphore → List ℕ
-semaphoreNoted i c old new = i ∷ flagsAndFields semaphoreWidths (semaphoreRow old) (predictedSemaphore c new)
+semaphoreNoted i c old new = entryOf semaphoreWidths i 0 0 (semaphoreRow old) (predictedSemaphore c new)
 
 abbrev pub semaphoreEntry : Call → List Semaphore → List Semaphore → ℕ → List ℕ
 semaphoreEntry c old new i = semaphoreNoted i c (getD old i noSemaphore) (getD new i noSemaphore)
@@ -71,7 +67,7 @@ semaphoresSection k c k′ = semaphoreEntries c (k .semaphores) (k′ .semaphore
 
 -- ---- events
 abbrev pub eventNoted : ℕ → Event → Event → List ℕ
-eventNoted i old new = i ∷ flagsAndFields eventWidths (eventRow old) (predictedEvent new)
+eventNoted i old new = entryOf eventWidths i 0 0 (eventRow old) (predictedEvent new)
 
 abbrev pub eventEntry : List Event → List Event → ℕ → List ℕ
 eventEntry old new i = eventNoted i (getD old i noEvent) (getD new i noEvent)
@@ -80,7 +76,7 @@ abbrev pub eventEntries : List Event → List Event → ℕ → ℕ → List ℕ
 eventEntries old new first count =
     entriesFrom (λ i. changedEvent (getD old i noEvent) (getD new i noEvent)) (eventEntry old new) first count
 
--- a byte 8 where bit a was the other way: no event has this id
+-- a byte 8 where bit a was the other way: no event has this id, so no entry begins so
 abbrev pub bitNoted : ℕ → ℕ → List ℕ
 bitNoted old new = cond (eqb old new) [] (8 ∷ [])
 
@@ -90,8 +86,7 @@ eventsSection k c k′ = bitNoted (k .bits) (k′ .bits) ++ eventEntries (k .eve
 -- ---- messages
 -- a message before: its id, and what isn't as predicted of its record and its place; `runner` is who runs after the call
 abbrev pub messageNoted : ℕ → Call → ℕ → Message → ℕ → Message → List ℕ
-messageNoted m c runner old place new =
-    m ∷ flagsAndFields messageWidths (messageRow old place) (predictedMessage c runner new)
+messageNoted m c runner old place new = entryOf messageWidths m 0 0 (messageRow old place) (predictedMessage c runner new)
 
 abbrev pub messageEntry : Call → ℕ → Posts → List Message → ℕ → List ℕ
 messageEntry c runner old new m =
@@ -108,9 +103,6 @@ messagesSection k c k′ = messageEntries c (k′ .runner) (postsOf k) (k′ .me
 -- Outside every region the first ready thread ran, which is found again; only inside one is the old runner written [01, state 8].
 abbrev pub heldRunner : ℕ → ℕ → ℕ → ℕ → ℕ
 heldRunner unscheduled critical runner after = cond (eqb (unscheduled + critical) 0) after runner
-
-abbrev pub unlessPredicted : List ℕ → List ℕ → List ℕ → List ℕ
-unlessPredicted widths old predicted = cond (eqb (flagsOf old predicted) 0) [] (flagsAndFields widths old predicted)
 
 -- both levels and the runner before the call, as far as those after it don't tell them
 abbrev pub levelsNoted : Call → ℕ → ℕ → ℕ → ℕ → ℕ → ℕ → List ℕ

@@ -1,5 +1,5 @@
 -- Who is touched by a call: whose record isn't what ageing alone explains, or who moves within a list though its record stays.
-use Prim.Native.Nat.{ℕ, _+_}
+use Prim.Native.Nat.{ℕ, _+_, _-_}
 use mathlib.Core.Bool.{Bool, true, false, not, cond, _&&_, _||_}
 use mathlib.Core.List.{List, [], _∷_}
 use lib.Dec.{eqb, ltb}
@@ -49,13 +49,21 @@ youngerThread c r =
       reply = r .reply;
     }
 
+-- A periodic semaphore whose ticks are its period was posted: it had one left, and its count was one less, unless it is at 0, where a
+-- waiter woke, or at its maximum, where it mostly was before.
+abbrev pub ticksBeforePulse : Semaphore → ℕ
+ticksBeforePulse r = cond (eqb (r .ticks) (r .period)) 1 (oneTickMore (r .ticks))
+
+abbrev pub countBeforePulse : Semaphore → ℕ
+countBeforePulse r = cond (eqb (r .ticks) (r .period)) (cond (eqb (r .count) (r .maximum)) (r .count) (r .count - 1)) (r .count)
+
 unfoldable pub youngerSemaphore : Call → Semaphore → Semaphore
 youngerSemaphore c r =
     record {
       live = r .live;
-      count = r .count;
+      count = cond (is c 1 && ltb 0 (r .period)) (countBeforePulse r) (r .count);
       maximum = r .maximum;
-      ticks = cond (is c 1 && ltb 0 (r .period)) (oneTickMore (r .ticks)) (r .ticks);
+      ticks = cond (is c 1 && ltb 0 (r .period)) (ticksBeforePulse r) (r .ticks);
       period = r .period;
     }
 

@@ -9,18 +9,27 @@ returns : tie.Need-returns
 unfolding predictedSemaphore
 returns c = rw (c .if1 .taken)
 
-cast-t5 : tie.Need-cast-t5
-cast-t5 c = search needs
+count-before-requires : tie.Need-count-before-requires
+count-before-requires c κs = search needs
 
 cast-t6 : tie.Need-cast-t6
 cast-t6 c = search needs
+
+cast-t7 : tie.Need-cast-t7
+cast-t7 c = search needs
 
 either-requires : tie.Need-either-requires
 either-requires c κs = search needs
 
 returns-2 : tie.Need-returns-2
 unfolding predictedSemaphore
-returns-2 c = rw (ne-eqb _ 14 (c .before .before .before .before .if1 .left), c .either .ensures)
+returns-2 c =
+    rw (
+      ne-eqb _ 14 (c .before .before .before .before .if1 .left),
+      c .before .before .before .count-before .ensures,
+      c .either .ensures,
+    )
 
 pub predicted-spec : {M : Type 1} → statement M
-predicted-spec = tie.close (tie.spec returns cast-t5 cast-t6 either-requires returns-2)
+predicted-spec =
+    tie.close (tie.spec returns count-before-requires cast-t6 cast-t7 either-requires returns-2)

@@ -1,9 +1,23 @@
 -- `code_notes_thread_rows::thread_rows::from_row` meets its contract: each field as far as its width goes.
+use Prim.Native.Nat.{ℕ, _%_, _^_}
+use mathlib.Core.Path.{_≡_}
+use mathlib.Core.Bool.{cond}
+use native.Mathlib.Omega.{arith}
+use lib.Dec.{eqb}
+use lib.ListN.{getD}
+use borrow.Table.Steps.{cases}
 use borrow.Author.Needs.{needs}
-use Rattle.spec_notes.specs.Rows.{threadFrom, threadWidths}
+use Rattle.spec_notes.specs.Rows.{conditionFrom, threadFrom, threadWidths}
 use Rattle.code_notes_entries.proofs.RowFields.{fitted-at}
 use Rattle.code_notes_thread_rows.proofs.thread_rows.from_row.Statement.{statement}
 use Rattle.code_notes_thread_rows.proofs.thread_rows.from_row.Tie as tie
+
+-- an id is cut to a byte as often as one likes
+condition-cut : (code x : ℕ) → conditionFrom code (x % 65536) ≡ conditionFrom code (x % 256 ^ cond (eqb code 5) 2 1)
+unfolding conditionFrom
+condition-cut code x =
+    let m : x % 65536 % 256 ≡ x % 256 % 256 = omega arith in
+    cases (eqb code 5) (λ e. rw e) (λ e. rw (e, m))
 
 array-read-t7 : tie.Need-array-read-t7
 array-read-t7 c = search needs
@@ -51,16 +65,18 @@ returns : tie.Need-returns
 unfolding threadFrom
 returns c =
     let row = c .before .before .before .args .t2 in
+    let code = c .before .before .before .args .code in
     rw (
-      fitted-at threadWidths row 0,
-      fitted-at threadWidths row 1,
-      fitted-at threadWidths row 2,
-      fitted-at threadWidths row 3,
-      fitted-at threadWidths row 4,
-      fitted-at threadWidths row 5,
+      fitted-at (threadWidths code) row 0,
+      fitted-at (threadWidths code) row 1,
+      fitted-at (threadWidths code) row 2,
+      fitted-at (threadWidths code) row 3,
+      fitted-at (threadWidths code) row 4,
+      fitted-at (threadWidths code) row 5,
       c .wake-from .ensures,
       c .before .word .ensures,
       c .before .before .condition-from .ensures,
+      condition-cut code (getD row 2 0),
     )
 
 pub from-row-spec : {M : Type 1} → statement M

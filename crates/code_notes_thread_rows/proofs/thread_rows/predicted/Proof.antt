@@ -1,23 +1,32 @@
 -- `code_notes_thread_rows::thread_rows::predicted` meets its contract: each field is that of `predictedThread`.
-use borrow.Author.Needs.{needs}
 use Rattle.spec_notes.specs.Predicted.{predictedThread}
+use borrow.Author.Needs.{needs}
 use Rattle.code_notes_thread_rows.proofs.thread_rows.predicted.Statement.{statement}
 use Rattle.code_notes_thread_rows.proofs.thread_rows.predicted.Tie as tie
 
 was-woken-requires : tie.Need-was-woken-requires
 was-woken-requires c κs = search needs
 
-cast-t7 : tie.Need-cast-t7
-cast-t7 c = search needs
+has-blocked-requires : tie.Need-has-blocked-requires
+has-blocked-requires c κs = search needs
 
-cast-t8 : tie.Need-cast-t8
-cast-t8 c = search needs
+priority-before-requires : tie.Need-priority-before-requires
+priority-before-requires c κs = search needs
+
+cast-t9 : tie.Need-cast-t9
+cast-t9 c = search needs
+
+priority-before-requires-2 : tie.Need-priority-before-requires-2
+priority-before-requires-2 c κs = search needs
+
+cast-t11 : tie.Need-cast-t11
+cast-t11 c = search needs
 
 data-before-requires : tie.Need-data-before-requires
 data-before-requires c κs = search needs
 
-cast-t10 : tie.Need-cast-t10
-cast-t10 c = search needs
+cast-t13 : tie.Need-cast-t13
+cast-t13 c = search needs
 
 ticks-before-requires : tie.Need-ticks-before-requires
 ticks-before-requires c κs = search needs
@@ -25,26 +34,26 @@ ticks-before-requires c κs = search needs
 wake-before-requires : tie.Need-wake-before-requires
 wake-before-requires c κs = search needs
 
-cast-t13 : tie.Need-cast-t13
-cast-t13 c = search needs
+cast-t16 : tie.Need-cast-t16
+cast-t16 c = search needs
 
 reply-before-requires : tie.Need-reply-before-requires
 reply-before-requires c κs = search needs
 
-cast-t15 : tie.Need-cast-t15
-cast-t15 c = search needs
+cast-t18 : tie.Need-cast-t18
+cast-t18 c = search needs
 
 place-before-requires : tie.Need-place-before-requires
 place-before-requires c κs = search needs
 
-cast-t17 : tie.Need-cast-t17
-cast-t17 c = search needs
+cast-t20 : tie.Need-cast-t20
+cast-t20 c = search needs
 
 due-before-requires : tie.Need-due-before-requires
 due-before-requires c κs = search needs
 
-cast-t19 : tie.Need-cast-t19
-cast-t19 c = search needs
+cast-t22 : tie.Need-cast-t22
+cast-t22 c = search needs
 
 returns : tie.Need-returns
 unfolding predictedThread
@@ -57,7 +66,10 @@ returns c =
       c .before .before .before .wake-before .ensures,
       a .ticks-before .ensures,
       a .before .data-before .ensures,
-      a .before .before .before .before .was-woken .ensures,
+      a .before .before .priority-before2 .ensures,
+      a .before .before .before .priority-before .ensures,
+      a .before .before .before .before .has-blocked .ensures,
+      a .before .before .before .before .before .was-woken .ensures,
     )
 
 pub predicted-spec : {M : Type 1} → statement M
@@ -65,17 +77,20 @@ predicted-spec =
     tie.close
     (tie.spec
     was-woken-requires
-    cast-t7
-    cast-t8
+    has-blocked-requires
+    priority-before-requires
+    cast-t9
+    priority-before-requires-2
+    cast-t11
     data-before-requires
-    cast-t10
+    cast-t13
     ticks-before-requires
     wake-before-requires
-    cast-t13
+    cast-t16
     reply-before-requires
-    cast-t15
+    cast-t18
     place-before-requires
-    cast-t17
+    cast-t20
     due-before-requires
-    cast-t19
+    cast-t22
     returns)

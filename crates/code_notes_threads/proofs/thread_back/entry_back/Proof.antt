@@ -1,21 +1,20 @@
--- `code_notes_threads::thread_back::entry_back` meets its contract: id, code, flags and fields; what is read fits.
+-- `code_notes_threads::thread_back::entry_back` meets its contract: id, code and fields; what is read fits.
 use Prim.Native.Nat.{_<_}
 use native.Mathlib.Omega.{arith}
-use lib.ListN.{drop}
-use borrow.Author.Needs.{needs}
-use Rattle.base_rows.specs.Rows.{cut}
+use lib.ListN.{getD, drop}
 use Rattle.base_rows.proofs.Fitted.{Bytes, drop-bytes}
-use Rattle.code_notes_threads.specs.ReadThreads.{withEntry}
-use Rattle.code_notes_threads.proofs.ReadThreads.{Typed, row-fitted}
+use Rattle.spec_notes.specs.Back.{threadRead}
+use Rattle.code_notes_threads.proofs.ReadThreads.{Typed, cut-thread, row-fitted}
 use Rattle.code_notes_entries.proofs.Typed.{data-typed}
+use borrow.Author.Needs.{needs}
 use Rattle.code_notes_threads.proofs.thread_back.entry_back.Statement.{statement}
 use Rattle.code_notes_threads.proofs.thread_back.entry_back.Tie as tie
 
-byte-at-requires : tie.Need-byte-at-requires
-byte-at-requires c κs = search needs
+id-in-requires : tie.Need-id-in-requires
+id-in-requires c κs = search needs
 
-byte-at-requires-2 : tie.Need-byte-at-requires-2
-byte-at-requires-2 c κs = search needs
+code-back-requires : tie.Need-code-back-requires
+code-back-requires c κs = search needs
 
 cast-thread-at : tie.Need-cast-thread-at
 cast-thread-at c = search needs
@@ -26,11 +25,11 @@ thread-at-requires c κs = search needs
 predicted-requires : tie.Need-predicted-requires
 predicted-requires c κs = search needs
 
-byte-at-requires-3 : tie.Need-byte-at-requires-3
-byte-at-requires-3 c κs = search needs
+widths-of-requires : tie.Need-widths-of-requires
+widths-of-requires c κs = search needs
 
-row-at-requires : tie.Need-row-at-requires
-row-at-requires c κs = search needs
+row-in-requires : tie.Need-row-in-requires
+row-in-requires c κs = search needs
 
 from-row-requires : tie.Need-from-row-requires
 from-row-requires c κs = search needs
@@ -45,43 +44,44 @@ put-record-requires : tie.Need-put-record-requires
 put-record-requires c κs = search needs
 
 returns : tie.Need-returns
-unfolding withEntry cut
+unfolding threadRead
 returns c =
     let g = c .before .before .before .before .before .before .before in
     let k = g .before .before .before in
     let a = k .before .args in
+    let s = a .e .now in
     let o = g .thread-at .ok .1 .1 .1 in
-    let h : Bytes (a .s .now) = λ i. omega (arith, k .shared-slice-known .given i) in
+    let h : Bytes s = λ i. omega (arith, k .shared-slice-known .given i) in
     let what = data-typed (g .thread-at .result .condition) _ (o .1 .1 .0) in
     let z : Typed (g .thread-at .result) =
     (omega (arith, o .0), omega (arith, o .1 .0), what, omega (arith, o .1 .1 .1 .0), omega (arith, o .1 .1 .1 .1 .1 .0)) in
     let x : a .c .a < 256 = omega (arith, k .before) in
-    let flags = c .before .before .before .before .byte-at3 .result in
-    let f =
-    row-fitted (a .c) (g .thread-at .result) (g .before .byte-at2 .result) flags (drop 3 (a .s .now)) x z (drop-bytes 3 (a .s .now) h) in
+    let code = g .before .code-back .result in
+    let f = row-fitted (a .c) (g .thread-at .result) code (getD s 0 0) (drop 1 s) x z (drop-bytes 1 s h) in
     rw (
       c .put-record .ensures,
       c .before .from-row .ensures,
-      c .before .before .before .row-at .ensures,
+      c .before .before .before .row-in .ensures,
+      c .before .before .before .before .widths-of .ensures,
       c .before .before .before .before .before .before .predicted .ensures,
       f,
-      c .before .before .before .before .byte-at3 .ensures,
+      cut-thread code,
       g .thread-at .ensures,
-      g .before .byte-at2 .ensures,
-      g .before .before .byte-at .ensures,
+      g .before .code-back .ensures,
+      g .before .before .id-in .ensures,
     )
 
 pub entry-back-spec : {M : Type 1} → statement M
 entry-back-spec =
     tie.close
     (tie.spec
-    byte-at-requires
-    byte-at-requires-2
+    id-in-requires
+    code-back-requires
     cast-thread-at
     thread-at-requires
     predicted-requires
-    byte-at-requires-3
-    row-at-requires
+    widths-of-requires
+    row-in-requires
     from-row-requires
     array-read-put-record
     array-read-put-record-2

@@ -1,32 +1,21 @@
--- `code_notes_threads::thread_back::entry_size` meets its contract: the flags say how many bytes the fields take.
-use mathlib.Core.Path.{_≡_}
-use native.Mathlib.Omega.{arith}
+-- `code_notes_threads::thread_back::entry_size` meets its contract: the widths are those of its code.
+use mathlib.Core.Path.{_∙_}
 use borrow.Author.Needs.{needs}
-use Rattle.base_rows.specs.Rows.{usedBy, sum}
-use Rattle.spec_notes.specs.Rows.{threadWidths}
-use Rattle.code_notes_entries.proofs.EntryTurns.{used-short}
 use Rattle.code_notes_threads.proofs.thread_back.entry_size.Statement.{statement}
 use Rattle.code_notes_threads.proofs.thread_back.entry_size.Tie as tie
 
-byte-at-requires : tie.Need-byte-at-requires
-byte-at-requires c κs = search needs
+code-back-requires : tie.Need-code-back-requires
+code-back-requires c κs = search needs
 
-used-by-requires : tie.Need-used-by-requires
-used-by-requires c κs = search needs
+widths-of-requires : tie.Need-widths-of-requires
+widths-of-requires c κs = search needs
 
-add-least : tie.Need-add-least
-unfolding sum
-add-least c =
-    let f = c .before .byte-at .result in
-    let e : c .used-by .result ≡ usedBy threadWidths f = c .used-by .ensures in
-    omega (arith, used-short threadWidths f)
-
-least-requires : tie.Need-least-requires
-least-requires c κs = search needs
+size-in-requires : tie.Need-size-in-requires
+size-in-requires c κs = search needs
 
 returns : tie.Need-returns
-returns c = rw (c .least .ensures, c .before .used-by .ensures, c .before .before .byte-at .ensures)
+returns c = c .size-in .ensures ∙ rw (c .before .widths-of .ensures, c .before .before .code-back .ensures)
 
 pub entry-size-spec : {M : Type 1} → statement M
 entry-size-spec =
-    tie.close (tie.spec byte-at-requires used-by-requires add-least least-requires returns)
+    tie.close (tie.spec code-back-requires widths-of-requires size-in-requires returns)

@@ -1,22 +1,37 @@
 -- `code_notes_threads::thread_back::threads_before` meets its contract: what is still to read are the entries from p on.
-use Prim.Native.Nat.{_-_, _≤_, _<_}
+use Prim.Native.Nat.{_+_, _-_, _≤_, _<_}
 use mathlib.Core.Path.{_≡_, sym, _∙_}
 use native.Mathlib.Omega.{arith}
-use lib.ListN.{length, drop, length-drop, drop-of-length-le}
-use lib.Seq.{drop-drop}
+use lib.ListN.{length}
+use Rattle.base_rows.proofs.EntriesRead.{entriesFrom, entries-end}
+use Rattle.spec_notes.specs.Back.{threadOwn, threadRead, threadsBefore}
+use Rattle.code_notes_entries.proofs.EntryTurns.{turn-on, turned}
+use Rattle.code_notes_threads.specs.ReadThreads.{meantThreads}
 use borrow.Author.Needs.{needs}
-use Rattle.spec_notes.specs.Back.{readThreads, threadsBefore}
-use Rattle.code_notes_threads.specs.ReadThreads.{meantThreads, entrySize}
-use Rattle.code_notes_threads.proofs.ReadThreads.{from-there, turn}
 use Rattle.code_notes_threads.proofs.thread_back.threads_before.Statement.{statement}
 use Rattle.code_notes_threads.proofs.thread_back.threads_before.Tie as tie
 
 abbrev Inv-loop : tie.InvT-loop
 Inv-loop c new s a₀ p₀ a p =
-    (p ≤ length s) × (threadsBefore c new s ≡ readThreads (length (drop p s)) c new (drop p s) (meantThreads a))
+    (p ≤ length s) × (threadsBefore c new s ≡ entriesFrom (threadOwn c new) (threadRead c new) s p (meantThreads a))
 
 abbrev μ-loop : tie.MeasureT-loop
 μ-loop c new s a₀ p₀ a p = length s - p
+
+-- ---- a turn, of what its calls answered
+abbrev loop-of : tie.After-entry-size Inv-loop μ-loop → tie.At-loop Inv-loop μ-loop
+loop-of c = c .before .before .before .before
+
+abbrev start-of : tie.After-entry-size Inv-loop μ-loop → tie.Start Inv-loop μ-loop
+start-of c = loop-of c .before .before .before
+
+on : (c : tie.After-entry-size Inv-loop μ-loop) → (0 < c .entry-size .result)
+    × (loop-of c .loop .p + c .entry-size .result ≤ length (start-of c .args .s .now))
+unfolding threadOwn
+on c =
+    let a = start-of c .args in
+    turn-on (threadOwn (a .c) (a .new)) (threadRead (a .c) (a .new)) (a .s .now) (c .before .before .before .loop-test .taken)
+    (c .entry-size .ensures)
 
 all-younger-requires : tie.Need-all-younger-requires Inv-loop μ-loop
 all-younger-requires c κs = search needs
@@ -40,38 +55,29 @@ entry-back-requires c κs = search needs
 entry-size-requires : tie.Need-entry-size-requires Inv-loop μ-loop
 entry-size-requires c κs = search needs
 
--- an entry has at least one byte, and no more than are left
-size : (c : tie.After-entry-size Inv-loop μ-loop) → let s = c .before .before .before .before .before .before .before .args .s .now in
-    c .entry-size .result ≡ entrySize (drop (c .before .before .before .before .loop .p) s)
-size c =
-    let s = c .before .before .before .before .before .before .before .args .s .now in
-    c .entry-size .ensures ∙ rw (from-there s (c .before .before .before .before .loop .p))
-
 add-p : tie.Need-add-p Inv-loop μ-loop
-add-p c = omega (arith, size c)
+add-p c = omega (arith, on c)
 
 loop-less : tie.Need-loop-less Inv-loop μ-loop
-loop-less c = omega (arith, size c)
+loop-less c = omega (arith, on c)
 
 loop-again : tie.Need-loop-again Inv-loop μ-loop
+unfolding threadOwn
 loop-again c =
-    let h = c .before .before .before in
-    let a = h .before .before .before .before .args in
-    let l = h .before .loop in
-    let s = a .s .now in
-    let more : 0 < length (drop (l .p) s) = simp length-drop (omega arith) in (
-      omega (arith, size c),
-      l .inv .1
-          ∙ turn (a .c) (a .new) (drop (l .p) s) (meantThreads (l .a)) more
-          ∙ rw (size c, c .before .entry-back .ensures, from-there s (l .p), drop-drop),
+    let a = start-of c .args in
+    let l = loop-of c .loop in (
+      on c .1,
+      turned (threadOwn (a .c) (a .new)) (threadRead (a .c) (a .new)) (a .s .now) (c .before .before .before .loop-test .taken)
+          (c .entry-size .ensures)
+          (meantThreads (l .a))
+          (c .before .entry-back .ensures)
+          (l .inv .1),
     )
 
 returns : tie.Need-returns Inv-loop μ-loop
-unfolding readThreads
 returns c =
     let l = c .before .loop in
-    let h : length (c .before .before .before .before .args .s .now) ≤ l .p = omega arith in
-    sym (l .inv .1 ∙ rw (drop-of-length-le (c .before .before .before .before .args .s .now) h))
+    sym (l .inv .1 ∙ entries-end _ _ (c .before .before .before .before .args .s .now) (l .p) (meantThreads (l .a)) (c .loop-test .left))
 
 pub threads-before-spec : {M : Type 1} → statement M
 threads-before-spec =

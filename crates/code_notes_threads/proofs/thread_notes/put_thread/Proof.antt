@@ -1,6 +1,5 @@
--- `code_notes_threads::thread_notes::put_thread` meets its contract: the id and the code, then the flags and what they flag.
+-- `code_notes_threads::thread_notes::put_thread` meets its contract: the entry of both codes and both rows.
 use borrow.Author.Needs.{needs}
-use Rattle.base_bytes.specs.Pens.{puts}
 use Rattle.code_notes_threads.proofs.thread_notes.put_thread.Statement.{statement}
 use Rattle.code_notes_threads.proofs.thread_notes.put_thread.Tie as tie
 
@@ -13,29 +12,27 @@ row-of-requires c κs = search needs
 predicted-requires : tie.Need-predicted-requires
 predicted-requires c κs = search needs
 
-put-byte-requires : tie.Need-put-byte-requires
-put-byte-requires c κs = search needs
+predicted-code-requires : tie.Need-predicted-code-requires
+predicted-code-requires c κs = search needs
 
-put-byte-requires-2 : tie.Need-put-byte-requires-2
-put-byte-requires-2 c κs = search needs
+widths-of-requires : tie.Need-widths-of-requires
+widths-of-requires c κs = search needs
 
-put-fields-requires : tie.Need-put-fields-requires
-put-fields-requires c κs = search needs
+put-entry-requires : tie.Need-put-entry-requires
+put-entry-requires c κs = search needs
 
 same-length : tie.Need-same-length
 same-length c = search needs
 
 returns : tie.Need-returns
-unfolding puts
 returns c =
-    let f = c .before .before in
-    let g = f .before .before .before .before in
-    let h = g .before .before .before .before in
-    let r = h .before .before .before .before in
+    let g = c .before .before in
+    let k = g .before .before .before in
+    let r = k .before .before .before in
     rw (
-      f .put-fields .ensures,
-      g .put-byte2 .ensures,
-      h .put-byte .ensures,
+      g .put-entry .ensures,
+      g .before .widths-of .ensures,
+      k .predicted-code .ensures,
       r .predicted .ensures,
       r .before .row-of .ensures,
       r .before .before .code-of .ensures,
@@ -48,8 +45,8 @@ put-thread-spec =
     code-of-requires
     row-of-requires
     predicted-requires
-    put-byte-requires
-    put-byte-requires-2
-    put-fields-requires
+    predicted-code-requires
+    widths-of-requires
+    put-entry-requires
     same-length
     returns)

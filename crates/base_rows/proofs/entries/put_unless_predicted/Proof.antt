@@ -1,10 +1,10 @@
--- `code_notes_entries::fields::put_unless_predicted` meets its contract: no flag, or what is flagged.
+-- `base_rows::entries::put_unless_predicted` meets its contract: no flag, or what is flagged.
 use mathlib.Core.Path.{sym, _∙_}
 use borrow.Author.Tests.{ne-eqb}
 use Rattle.base_bytes.specs.Pens.{puts}
 use borrow.Author.Needs.{needs}
-use Rattle.code_notes_entries.proofs.fields.put_unless_predicted.Statement.{statement}
-use Rattle.code_notes_entries.proofs.fields.put_unless_predicted.Tie as tie
+use Rattle.base_rows.proofs.entries.put_unless_predicted.Statement.{statement}
+use Rattle.base_rows.proofs.entries.put_unless_predicted.Tie as tie
 
 flags-of-requires : tie.Need-flags-of-requires
 flags-of-requires c κs = search needs

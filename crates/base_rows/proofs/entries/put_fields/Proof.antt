@@ -1,8 +1,8 @@
--- `code_notes_entries::fields::put_fields` meets its contract: the flags, then the body.
+-- `base_rows::entries::put_fields` meets its contract: the flags, then the body.
 use Rattle.base_bytes.specs.Pens.{puts}
 use borrow.Author.Needs.{needs}
-use Rattle.code_notes_entries.proofs.fields.put_fields.Statement.{statement}
-use Rattle.code_notes_entries.proofs.fields.put_fields.Tie as tie
+use Rattle.base_rows.proofs.entries.put_fields.Statement.{statement}
+use Rattle.base_rows.proofs.entries.put_fields.Tie as tie
 
 flags-of-requires : tie.Need-flags-of-requires
 flags-of-requires c κs = search needs
