@@ -1,11 +1,9 @@
-// A program for timing the way back. The first byte of standard input says which undo: `s` for single public ones, `r` for a run of them.
+// A program for timing the way back. The first byte of standard input says which undo: `s` for single public ones, `r` for a run of them in one call.
 // Behind it come at most 4,096 records, which are run once from fresh with all notes in one log, and no line for a call; then 64 times,
 // each time from that end, every note is undone. It prints how many records there are, and of all rounds the undos, the bytes of notes that
 // were left, and how many rounds ended in the fresh state.
 ghost use Rattle.spec_rules.specs.Rules.{Rules};
-ghost use Rattle.spec_answers.specs.Promises.{Undone};
 use replay::undos;
-use spec_answers::Logged;
 use spec_kernel::records::Kernel;
 
 // A state, and how much of the log is used.
@@ -40,17 +38,6 @@ fn forward(s: &[u8], log: &mut [u8; 1048576]) -> Run
     }
 }
 
-// The undo that is timed: a single public one, which tests the state first, or one in a run, whose states are known to keep the rules.
-fn one_back(single: bool, k: Kernel, log: &[u8], used: usize) -> Logged
-    requires { ⌜ Rules k ⌝ }
-    ensures { λ r. ⌜ Undone k (now (log .entry)) used r ⌝ }
-{
-    if single {
-        return undos::undo(k, log, used);
-    }
-    replay::undo_kept(k, log, used)
-}
-
 // One where the state is the fresh one.
 fn one_if_fresh(k: Kernel) -> u64 {
     if replay::same_kernel(k, replay::fresh()) {
@@ -60,15 +47,13 @@ fn one_if_fresh(k: Kernel) -> u64 {
     }
 }
 
-// Every note undone, until an undo is refused; there are no more notes than records.
-fn round(single: bool, end: Kernel, log: &[u8], used: usize) -> Total
-    requires { ⌜ Rules end ⌝ }
-{
+// Every note undone by a single public undo, until one is refused; there are no more notes than records.
+fn one_by_one(end: Kernel, log: &[u8], used: usize) -> Total {
     let mut k = end;
     let mut left = used;
     let mut undone: u64 = 0;
     while undone < 4096 {
-        let l = one_back(single, k, log, left);
+        let l = undos::undo(k, log, left);
         if l.answer.number != 0 {
             break;
         }
@@ -83,10 +68,25 @@ fn round(single: bool, end: Kernel, log: &[u8], used: usize) -> Total
     }
 }
 
+// The same in one call, which tests the state once.
+fn at_once(end: Kernel, log: &[u8], used: usize) -> Total {
+    let r = undos::undo_many(end, log, used, 4096);
+    Total {
+        undone: r.undone as u64,
+        left: r.used as u64,
+        fresh: one_if_fresh(r.kernel),
+    }
+}
+
+fn round(single: bool, end: Kernel, log: &[u8], used: usize) -> Total {
+    if single {
+        return one_by_one(end, log, used);
+    }
+    at_once(end, log, used)
+}
+
 // All of them, from the same end and the same log.
-fn all_rounds(single: bool, end: Kernel, log: &[u8; 1048576], used: usize) -> Total
-    requires { ⌜ Rules end ⌝ }
-{
+fn all_rounds(single: bool, end: Kernel, log: &[u8; 1048576], used: usize) -> Total {
     let mut total = Total {
         undone: 0,
         left: 0,
