@@ -17,7 +17,7 @@ use base_bytes::bytes::least;
 use base_bytes::pens::put_byte;
 
 // Of an old row what isn't as predicted: its flags, then those fields.
-pub fn put_fields(
+fn put_fields(
     log: &mut [u8],
     at: usize,
     widths: [u8; 8],
@@ -118,7 +118,7 @@ fn fields_from(head: u8) -> u8
 }
 
 // Its flags.
-pub fn flags_in(e: &[u8]) -> u8
+fn flags_in(e: &[u8]) -> u8
     ensures { λ r. ⌜ r ≡ flagsIn (getD (now (e .entry)) 0 0) (drop 1 (now (e .entry))) ⌝ }
 {
     let head = byte_at(e, 0);
