@@ -1,7 +1,7 @@
-// A program for timing the way back. The first byte of standard input says which undo: `s` for single public ones, `r` for a run of them in one call.
-// Behind it come at most 4,096 records, which are run once from fresh with all notes in one log, and no line for a call; then 64 times,
-// each time from that end, every note is undone. It prints how many records there are, and of all rounds the undos, the bytes of notes that
-// were left, and how many rounds ended in the fresh state.
+// A program for timing the way back. The first byte of standard input says which undo: `s` for single public ones, `r` for a run of them
+// in one call. Behind it come at most 4,096 records, which are run once from fresh with all notes in one log, and no line for a call; then
+// 64 times, each time from that end, every note is undone. It prints how many records there are, and of all rounds the undos, the bytes of
+// notes that were left, and how many rounds ended in the fresh state.
 ghost use Rattle.spec_rules.specs.Rules.{Rules};
 use replay::undos;
 use spec_kernel::records::Kernel;
