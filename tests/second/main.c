@@ -6,7 +6,7 @@
 
 #include "modes.h"
 
-enum { ROUND_RECORDS = 4096, ROUNDS = 256, ROUNDS_UNDO = 64, BUFFER = 1 << 16, KINDS = 30 };
+enum { ROUND_RECORDS = 4096, ROUNDS = 256, ROUNDS_UNDO = 64, BUFFER = 1 << 16 };
 
 static struct kernel kernel; /* too large for some stacks */
 static struct log notes_log;
@@ -127,27 +127,6 @@ int notes(void)
     return 0;
 }
 
-/* How many notes there are of each kind, and how long they are in the mean; as kind 0 those of all. */
-int kinds(void)
-{
-    unsigned long count[KINDS + 1] = { 0 }, bytes[KINDS + 1] = { 0 }; /* at 0 of all kinds */
-    uint8_t record[RECORD];
-    make_fresh(&kernel);
-    while (next_record(record)) {
-        size_t used = notes_log.used;
-        if (step_noted(&kernel, record, &notes_log).number != 0)
-            continue;
-        for (int kind = 0; kind <= record[0]; kind += record[0]) {
-            count[kind]++;
-            bytes[kind] += notes_log.used - used;
-        }
-    }
-    for (int kind = 0; kind <= KINDS; kind++)
-        if (count[kind] > 0)
-            printf("kind %d notes %lu mean %.2f\n", kind, count[kind], (double)bytes[kind] / (double)count[kind]);
-    return 0;
-}
-
 /* Every note leads back to a copy of the state before its call; then all of them lead back to the fresh state. */
 int back(void)
 {
@@ -183,7 +162,7 @@ static const struct {
     const char *name, *second;
     int (*run)(void);
 } modes[] = {
-    { "printed", 0, printed }, { "notes", 0, notes }, { "kinds", 0, kinds }, { "back", 0, back }, { "rounds", 0, rounds },
+    { "printed", 0, printed }, { "notes", 0, notes }, { "back", 0, back }, { "rounds", 0, rounds },
     { "rounds", "plain", rounds_plain }, { "rounds", "undo", rounds_undo },
 };
 
@@ -196,7 +175,7 @@ static int run_mode(int argc, char **argv)
         if (argc == (modes[i].second ? 3 : 2) && strcmp(argv[1], modes[i].name) == 0
             && (argc == 2 || strcmp(argv[2], modes[i].second) == 0))
             return modes[i].run();
-    fprintf(stderr, "usage: second printed | both LINESFILE | notes | kinds | back | rounds [plain | undo]  < records\n");
+    fprintf(stderr, "usage: second printed | both LINESFILE | notes | back | rounds [plain | undo]  < records\n");
     return 2;
 }
 

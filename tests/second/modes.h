@@ -16,7 +16,6 @@ struct answer step_noted(struct kernel *k, const uint8_t record[RECORD], struct 
 int printed(void);
 int both(const char *lines_file);
 int notes(void);
-int kinds(void);
 int back(void);
 int rounds(void);
 int rounds_plain(void);
