@@ -3,9 +3,8 @@ ghost use mathlib.Core.Path.{_≡_};
 ghost use mathlib.Core.Bool.{_&&_};
 ghost use lib.Dec.{eqb};
 ghost use Rattle.spec_rules.specs.Tests.{noWake, isNoThread, isNoSemaphore, isNoMessage};
-ghost use Rattle.spec_rules.specs.Tests.{conditionKept, liveThreadKept, threadKept, liveSemaphoreKept, semaphoreKept};
-ghost use Rattle.spec_rules.specs.Tests.{liveMessageKept, messageKept};
-ghost use Rattle.code_rules_records.specs.Others.{ByObjects, ByOwner};
+ghost use Rattle.spec_rules.specs.Tests.{liveSemaphoreKept, semaphoreKept};
+ghost use Rattle.code_rules_records.specs.Others.{conditionBy, liveThreadBy, threadBy, liveMessageBy, messageBy};
 use base_bits::sets;
 use spec_kernel::records::Condition;
 use spec_kernel::records::Message;
@@ -73,7 +72,7 @@ pub fn may_have_waiters(r: Semaphore) -> bool
 
 // `waited` has the semaphores, and `untrue` the events, that may have waiters.
 fn condition_kept(waited: u64, untrue: u64, ticks: u32, c: Condition) -> bool
-    ensures { λ b. ⌜ ByObjects waited untrue b (λ semaphores events bits. conditionKept semaphores events bits ticks c) ⌝ }
+    ensures { λ b. ⌜ b ≡ conditionBy waited untrue ticks c ⌝ }
 {
     match c {
         Condition::Ready => ticks == 0,
@@ -90,7 +89,7 @@ fn condition_kept(waited: u64, untrue: u64, ticks: u32, c: Condition) -> bool
 }
 
 fn live_thread_kept(waited: u64, untrue: u64, r: Thread) -> bool
-    ensures { λ b. ⌜ ByObjects waited untrue b (λ semaphores events bits. liveThreadKept semaphores events bits r) ⌝ }
+    ensures { λ b. ⌜ b ≡ liveThreadBy waited untrue r ⌝ }
 {
     if r.priority == 0 {
         return false;
@@ -114,7 +113,7 @@ fn live_thread_kept(waited: u64, untrue: u64, r: Thread) -> bool
 }
 
 pub fn thread_kept(waited: u64, untrue: u64, r: Thread) -> bool
-    ensures { λ b. ⌜ ByObjects waited untrue b (λ semaphores events bits. threadKept semaphores events bits r) ⌝ }
+    ensures { λ b. ⌜ b ≡ threadBy waited untrue r ⌝ }
 {
     if r.live {
         live_thread_kept(waited, untrue, r)
@@ -150,7 +149,7 @@ pub fn semaphore_kept(r: Semaphore) -> bool
 
 // `owner` is the record of the message's owner, if there is such a thread.
 fn live_message_kept(owner: Thread, r: Message) -> bool
-    ensures { λ b. ⌜ ByOwner owner r b (λ threads. liveMessageKept threads r) ⌝ }
+    ensures { λ b. ⌜ b ≡ liveMessageBy owner r ⌝ }
 {
     if sizes::THREAD_IDS <= r.owner {
         return false;
@@ -169,7 +168,7 @@ fn live_message_kept(owner: Thread, r: Message) -> bool
 }
 
 pub fn message_kept(owner: Thread, r: Message) -> bool
-    ensures { λ b. ⌜ ByOwner owner r b (λ threads. messageKept threads r) ⌝ }
+    ensures { λ b. ⌜ b ≡ messageBy owner r ⌝ }
 {
     if r.live {
         live_message_kept(owner, r)

@@ -1,9 +1,8 @@
 -- `code_rules_records::condition_kept` meets its contract, case by case.
-use mathlib.Core.Path.{_∙_}
 use native.Mathlib.Omega.{arith}
 use borrow.Author.Tests.{lt-ltb, le-ltb}
 use borrow.Author.Needs.{needs}
-use Rattle.spec_rules.specs.Tests.{conditionKept}
+use Rattle.code_rules_records.specs.Others.{conditionBy}
 use Rattle.code_rules_records.proofs.condition_kept.Statement.{statement}
 use Rattle.code_rules_records.proofs.condition_kept.Tie as tie
 
@@ -29,30 +28,30 @@ enum-known-c-3 : tie.Need-enum-known-c-3
 enum-known-c-3 c = search needs
 
 returns : tie.Need-returns
-unfolding conditionKept
-returns c _ _ _ _ =
+unfolding conditionBy
+returns c =
     let m = c .before .before .c3 .given in
     rw (m .1, le-ltb 0 (m .0 .0) (omega arith))
 
 returns-2 : tie.Need-returns-2
-unfolding conditionKept
-returns-2 c _ _ _ _ = rw (c .enum-told .given .1)
+unfolding conditionBy
+returns-2 c = rw (c .enum-told .given .1)
 
 returns-3 : tie.Need-returns-3
-unfolding conditionKept
-returns-3 c _ _ _ _ = rw (c .enum-told2 .given .1)
+unfolding conditionBy
+returns-3 c = rw (c .enum-told2 .given .1)
 
 returns-4 : tie.Need-returns-4
-unfolding conditionKept
-returns-4 c _ _ _ o = rw (c .before .before .c .given .1) (c .has .ensures ∙ o .semaphore _)
+unfolding conditionBy
+returns-4 c = rw (c .before .before .c .given .1) (c .has .ensures)
 
 returns-5 : tie.Need-returns-5
-unfolding conditionKept
-returns-5 c _ _ _ o = rw (c .before .before .c2 .given .1) (c .has2 .ensures ∙ o .event _)
+unfolding conditionBy
+returns-5 c = rw (c .before .before .c2 .given .1) (c .has2 .ensures)
 
 returns-6 : tie.Need-returns-6
-unfolding conditionKept
-returns-6 c _ _ _ _ =
+unfolding conditionBy
+returns-6 c =
     let m = c .before .before .c3 .given in
     rw (m .1, lt-ltb 0 (m .0 .0) (omega arith))
 

@@ -1,6 +1,6 @@
 -- `code_rules_records::message_kept` meets its contract: whether it is live picks the test.
 use borrow.Author.Needs.{needs}
-use Rattle.spec_rules.specs.Tests.{messageKept}
+use Rattle.code_rules_records.specs.Others.{messageBy}
 use Rattle.code_rules_records.proofs.message_kept.Statement.{statement}
 use Rattle.code_rules_records.proofs.message_kept.Tie as tie
 
@@ -11,12 +11,12 @@ is-no-message-requires : tie.Need-is-no-message-requires
 is-no-message-requires c κs = search needs
 
 returns : tie.Need-returns
-unfolding messageKept
-returns c _ o = rw (c .live-message-kept .ensures _ o, c .before .if1 .taken)
+unfolding messageBy
+returns c = rw (c .live-message-kept .ensures, c .before .if1 .taken)
 
 returns-2 : tie.Need-returns-2
-unfolding messageKept
-returns-2 c _ _ = rw (c .is-no-message .ensures, c .before .if1 .left)
+unfolding messageBy
+returns-2 c = rw (c .is-no-message .ensures, c .before .if1 .left)
 
 pub message-kept-spec : {M : Type 1} → statement M
 message-kept-spec =

@@ -15,6 +15,7 @@ use Rattle.spec_kernel.specs.Sizes.{threadCount, messageCount}
 use Rattle.spec_kernel.specs.Places.{isQueued, streamOf}
 use Rattle.spec_rules.specs.Tests.{messageKept}
 use Rattle.code_rules_records.specs.Others.{Owner}
+use Rattle.code_rules_records.proofs.ByOthers.{message-by}
 use Rattle.code_rules.proofs.Loops.{Sweep, sweep-starts, sweep-next, sweep-ends, tells-more}
 use borrow.Author.Needs.{needs}
 use Rattle.code_rules.proofs.told.of_messages.Statement.{statement}
@@ -94,7 +95,7 @@ loop-again c =
       l .inv .1,
       omega arith,
       sweep-next (l .inv .3) noMessage (omega arith)
-          (b .both .ensures ∙ ap (λ (x : Bool). l .kept && x) (k .message-kept .ensures (a .t2) o)),
+          (b .both .ensures ∙ ap (λ (x : Bool). l .kept && x) (k .message-kept .ensures ∙ message-by o)),
       tells-more (l .inv .4) (omega arith) (queued .joined .ensures) (queued .before .is-queued .ensures),
       keys-next (l .inv .5) (omega arith) (c .stream-of .ensures),
     )

@@ -18,6 +18,7 @@ use Rattle.spec_kernel.specs.Conditions.{isReady}
 use Rattle.spec_kernel.specs.Places.{hasHome, rankOf}
 use Rattle.spec_rules.specs.Tests.{threadKept, isTicking}
 use Rattle.code_rules_records.specs.Others.{Objects}
+use Rattle.code_rules_records.proofs.ByOthers.{thread-by}
 use Rattle.code_rules.proofs.Loops.{Sweep, sweep-starts, sweep-next, sweep-ends, tells-more}
 use borrow.Author.Needs.{needs}
 use Rattle.code_rules.proofs.told.of_threads.Statement.{statement}
@@ -111,7 +112,7 @@ loop-again c =
       l .inv .0,
       omega arith,
       λ semaphores events bits o. sweep-next (l .inv .2 semaphores events bits o) noThread (omega arith)
-          (b .both .ensures ∙ ap (λ (x : Bool). l .kept && x) (k .thread-kept .ensures semaphores events bits o)),
+          (b .both .ensures ∙ ap (λ (x : Bool). l .kept && x) (k .thread-kept .ensures ∙ thread-by o _)),
       tells-more (l .inv .3) (omega arith) (homes .joined .ensures) (homes .before .has-home .ensures),
       tells-more (l .inv .4) (omega arith) (ticking .joined2 .ensures) refl,
       tells-more (l .inv .5) (omega arith) (ready .joined3 .ensures) (ready .before .is-ready .ensures),
