@@ -111,7 +111,11 @@ module _ (word i : ℕ) where
   pub with-small : word < 2 ^ 32 → withBit word i < 2 ^ 32
   with-small s = below i (λ h. rw (with-or word i h) (or-lt 32 word (2 ^ i) s (pow-lt h))) (λ h. rw (with-high word i h) s)
 
-  pub without-small : word < 2 ^ 32 → withoutBit word i < 2 ^ 32
+  -- with so many bits it keeps to them
+  pub with-below : {n : ℕ} → i < n → word < 2 ^ n → withBit word i < 2 ^ n
+  with-below {n} b s = below i (λ h. rw (with-or word i h) (or-lt n word (2 ^ i) s (pow-lt b))) (λ h. rw (with-high word i h) s)
+
+  pub without-small : {n : ℕ} → word < n → withoutBit word i < n
   without-small s = either (bitAt word i) (λ e. rw (without-set word i e) (omega arith)) (λ e. rw (without-clear word i e) s)
 
 -- Every other bit is as it was.

@@ -6,7 +6,7 @@ use denote.Shadow.{shadow}
 use mir.Val.{Val}
 use Rattle.spec_kernel.proofs.records.Condition.{the-type, the-field}
 use Rattle.spec_kernel.specs.declared.records.Condition.{Condition}
-use Rattle.spec_kernel.specs.declared.records.Condition.the-variants.{Ready, Asleep, ForSemaphore, ForEvent, ForMessage}
+use Rattle.spec_kernel.specs.declared.records.Condition.the-variants.{Ready, Asleep, ForSemaphore, ForEvent, ForMessage, ForFlag}
 use Rattle.spec_notes.specs.Rows.{conditionData}
 
 pub data-typed : (x : Condition) (vs : List Val) → shadow (the-field .row .own (the-type .to x) vs) → conditionData x < 65536
@@ -15,3 +15,4 @@ data-typed Asleep vs h = omega arith
 data-typed (ForSemaphore i) vs h = omega (arith, h)
 data-typed (ForEvent i) vs h = omega (arith, h)
 data-typed (ForMessage mask) vs h = omega (arith, h)
+data-typed (ForFlag i) vs h = omega (arith, h)

@@ -17,7 +17,7 @@ use Rattle.base_queue.specs.Tables.{isPlaced, isOrderedFrom}
 use Rattle.base_tables.specs.Taken.{isTable, Keys}
 use Rattle.base_tables.proofs.Takes.{told-members, taken-means}
 use Rattle.spec_kernel.specs.declared.records.Condition.{Condition}
-use Rattle.spec_kernel.specs.declared.records.Condition.the-variants.{Ready, Asleep, ForSemaphore, ForEvent, ForMessage}
+use Rattle.spec_kernel.specs.declared.records.Condition.the-variants.{Ready, Asleep, ForSemaphore, ForEvent, ForMessage, ForFlag}
 use Rattle.spec_kernel.specs.declared.records.Thread.{Thread}
 use Rattle.spec_kernel.specs.declared.records.Semaphore.{Semaphore}
 use Rattle.spec_kernel.specs.declared.records.Kernel.{Kernel}
@@ -57,6 +57,7 @@ ready-low Asleep p h = refl
 ready-low (ForSemaphore i) p h = le-ltb (1 * 256 + i) 256 (omega arith)
 ready-low (ForEvent i) p h = le-ltb (2 * 256 + i) 256 (omega arith)
 ready-low (ForMessage mask) p h = refl
+ready-low (ForFlag i) p h = le-ltb (2 * 256 + i) 256 (omega arith)
 
 home-low : (r : Thread) → (r .live ≡ true → r .priority ≤ priorityCount) → ltb (homeOf r) (home ofSemaphores 0) ≡ isReady r
 unfolding homeOf

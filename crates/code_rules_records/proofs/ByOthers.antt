@@ -6,7 +6,7 @@ use lib.Dec.{ltb}
 use borrow.Author.Tests.{ltb-true, ltb-false}
 use borrow.Table.Steps.{cases}
 use Rattle.spec_kernel.specs.declared.records.Condition.{Condition}
-use Rattle.spec_kernel.specs.declared.records.Condition.the-variants.{Ready, Asleep, ForSemaphore, ForEvent, ForMessage}
+use Rattle.spec_kernel.specs.declared.records.Condition.the-variants.{Ready, Asleep, ForSemaphore, ForEvent, ForMessage, ForFlag}
 use Rattle.spec_kernel.specs.declared.records.Thread.{Thread}
 use Rattle.spec_kernel.specs.declared.records.Semaphore.{Semaphore}
 use Rattle.spec_kernel.specs.declared.records.Event.{Event}
@@ -26,6 +26,7 @@ module _ {waited untrue : ℕ} {semaphores : List Semaphore} {events : List Even
   condition-by ticks (ForSemaphore i) = o .semaphore i
   condition-by ticks (ForEvent i) = o .event i
   condition-by ticks (ForMessage mask) = refl
+  condition-by ticks (ForFlag i) = o .event i
 
   pub thread-by : (r : Thread) → threadBy waited untrue r ≡ threadKept semaphores events bits r
   unfolding threadBy liveThreadBy threadKept liveThreadKept

@@ -7,7 +7,7 @@ use lib.Dec.{eqb, ltb, leb}
 use lib.ListN.{length, getD}
 use Rattle.base_bits.specs.Words.{hasBit}
 use Rattle.spec_kernel.specs.declared.records.Condition.{Condition}
-use Rattle.spec_kernel.specs.declared.records.Condition.the-variants.{Ready, Asleep, ForSemaphore, ForEvent, ForMessage}
+use Rattle.spec_kernel.specs.declared.records.Condition.the-variants.{Ready, Asleep, ForSemaphore, ForEvent, ForMessage, ForFlag}
 use Rattle.spec_kernel.specs.declared.records.Thread.{Thread}
 use Rattle.spec_kernel.specs.declared.records.Semaphore.{Semaphore}
 use Rattle.spec_kernel.specs.declared.records.Event.{Event}
@@ -24,6 +24,7 @@ conditionBy waited untrue ticks Asleep = ltb 0 ticks
 conditionBy waited untrue ticks (ForSemaphore i) = hasBit waited i
 conditionBy waited untrue ticks (ForEvent i) = hasBit untrue i
 conditionBy waited untrue ticks (ForMessage mask) = ltb 0 mask && leb mask 32767
+conditionBy waited untrue ticks (ForFlag i) = hasBit untrue i
 
 unfoldable pub liveThreadBy : ℕ → ℕ → Thread → Bool
 liveThreadBy waited untrue r =

@@ -7,7 +7,7 @@ use lib.Dec.{ltb}
 use lib.ListN.{getD}
 use borrow.Author.Tests.{eqb-false, ltb-false, not-false}
 use Rattle.spec_kernel.specs.declared.records.Kernel.{Kernel}
-use Rattle.spec_kernel.specs.Records.{thread, semaphore, message}
+use Rattle.spec_kernel.specs.Records.{thread, semaphore, message, flag}
 use Rattle.spec_calls.specs.declared.call.Call.{Call}
 use Rattle.spec_calls.specs.declared.kinds.Kind.{Kind}
 use Rattle.spec_calls.specs.Kinds.{noKind, kinds, kindOf, names, idNamed, fromThread}
@@ -87,3 +87,7 @@ module _ {k : Kernel} {c : Call} (A : Accepted k c) {n : ℕ} (e : c .kind ≡ n
   pub message-named : names (kind .message) ≡ true → message k (c .a) .live ≡ true
   unfolding badId named
   message-named h = let (_, (_, (_, (_, (l, _))))) = simp (none-iff, of-kind) at (A .ids) in not-false (message k (c .a) .live) (rw h at l)
+
+  pub flag-named : names (kind .flag) ≡ true → flag k (c .a) ≡ true
+  unfolding badId named
+  flag-named h = let (_, (_, (_, (_, (_, (l, _)))))) = simp (none-iff, of-kind) at (A .ids) in not-false (flag k (c .a)) (rw h at l)

@@ -12,14 +12,15 @@ use lib.ListN.{length, getD, length-set}
 use lib.Seq.{getD-set-same, getD-set-other, set-out}
 use borrow.Author.Tests.{eqb-true, eqb-false, ltb-true, ltb-false}
 use borrow.Table.Steps.{cases}
+use Rattle.base_bits.specs.Words.{bitAt}
 use Rattle.spec_kernel.specs.declared.records.Condition.{Condition}
-use Rattle.spec_kernel.specs.declared.records.Condition.the-variants.{Ready, Asleep, ForSemaphore, ForEvent, ForMessage}
+use Rattle.spec_kernel.specs.declared.records.Condition.the-variants.{Ready, Asleep, ForSemaphore, ForEvent, ForMessage, ForFlag}
 use Rattle.spec_kernel.specs.declared.records.Thread.{Thread}
 use Rattle.spec_kernel.specs.declared.records.Semaphore.{Semaphore}
 use Rattle.spec_kernel.specs.declared.records.Event.{Event}
 use Rattle.spec_kernel.specs.declared.records.Message.{Message}
 use Rattle.spec_kernel.specs.declared.records.Kernel.{Kernel}
-use Rattle.spec_kernel.specs.Sizes.{threadCount, semaphoreCount, eventCount, messageCount, priorityCount, channelCount}
+use Rattle.spec_kernel.specs.Sizes.{threadCount, semaphoreCount, eventCount, messageCount, flagCount, priorityCount, channelCount}
 use Rattle.spec_kernel.specs.Records.{thread, semaphore, event, message, noThread, noSemaphore, noMessage}
 use Rattle.spec_kernel.specs.Conditions.{awaits}
 use Rattle.spec_kernel.specs.Truth.{isTrue}
@@ -28,7 +29,7 @@ use Rattle.spec_moves.proofs.Joins.{past-end}
 use Rattle.spec_moves.proofs.Threads.{relocate-same, relocate-other, relocate-standing}
 use Rattle.spec_moves.proofs.Posts.{repost-same, repost-other, repost-filed}
 use Rattle.spec_rules.proofs.OfRecords.{Kept, live-or-not, KeptSemaphore}
-use Rattle.spec_moves.specs.States.{withSemaphore, withEvents, withScheduler, moveThread, moveMessage}
+use Rattle.spec_moves.specs.States.{withSemaphore, withEvents, withFlags, withScheduler, moveThread, moveMessage}
 
 -- ---- the records
 -- a semaphore that threads may wait for
@@ -36,20 +37,21 @@ abbrev pub Waitable : Semaphore → Type 0
 Waitable s = (s .live ≡ true) × (s .count ≡ 0)
 
 -- what a condition says of the ticks left and of the object
-abbrev pub Fits : List Semaphore → (ℕ → Bool) → ℕ → Condition → Type 0
-Fits semaphores waited ticks Ready = ticks ≡ 0
-Fits semaphores waited ticks Asleep = 0 < ticks
-Fits semaphores waited ticks (ForSemaphore i) = Waitable (getD semaphores i noSemaphore)
-Fits semaphores waited ticks (ForEvent i) = (i < eventCount) × (waited i ≡ true)
-Fits semaphores waited ticks (ForMessage mask) = (0 < mask) × (mask ≤ 32767)
+abbrev pub Fits : List Semaphore → (ℕ → Bool) → ℕ → ℕ → Condition → Type 0
+Fits semaphores waited flags ticks Ready = ticks ≡ 0
+Fits semaphores waited flags ticks Asleep = 0 < ticks
+Fits semaphores waited flags ticks (ForSemaphore i) = Waitable (getD semaphores i noSemaphore)
+Fits semaphores waited flags ticks (ForEvent i) = (i < eventCount) × (waited i ≡ true)
+Fits semaphores waited flags ticks (ForMessage mask) = (0 < mask) × (mask ≤ 32767)
+Fits semaphores waited flags ticks (ForFlag i) = (i < flagCount) × (bitAt flags i ≡ true)
 
-pub record LivingThread (semaphores : List Semaphore) (waited : ℕ → Bool) (r : Thread) : Type 0 where
+pub record LivingThread (semaphores : List Semaphore) (waited : ℕ → Bool) (flags : ℕ) (r : Thread) : Type 0 where
   pub priority : (1 ≤ r .priority) × (r .priority ≤ priorityCount) × (1 ≤ r .first) × (r .first ≤ priorityCount)
   pub reply : (r .reply < messageCount) ⊎ (r .reply ≡ 255)
-  pub condition : Fits semaphores waited (r .ticks) (r .condition)
+  pub condition : Fits semaphores waited flags (r .ticks) (r .condition)
 
-abbrev pub FineThread : List Semaphore → (ℕ → Bool) → Thread → Type 0
-FineThread semaphores waited r = Kept (λ (s : Thread). s .live) noThread (LivingThread semaphores waited) r
+abbrev pub FineThread : List Semaphore → (ℕ → Bool) → ℕ → Thread → Type 0
+FineThread semaphores waited flags r = Kept (λ (s : Thread). s .live) noThread (LivingThread semaphores waited flags) r
 
 pub record LivingMessage (threads : List Thread) (r : Message) : Type 0 where
   pub owner : getD threads (r .owner) noThread .live ≡ true
@@ -66,7 +68,7 @@ pub record Core (waited : ℕ → Bool) (k : Kernel) : Type 0 where
   pub filed : Filed (postsOf k)
   pub semaphoresSized : length (k .semaphores) ≡ semaphoreCount
   pub eventsSized : length (k .events) ≡ eventCount
-  pub threads : (t : ℕ) → FineThread (k .semaphores) waited (thread k t)
+  pub threads : (t : ℕ) → FineThread (k .semaphores) waited (k .flags) (thread k t)
   pub semaphores : (i : ℕ) → KeptSemaphore (semaphore k i)
   pub messages : (m : ℕ) → FineMessage (k .threads) (message k m)
 
@@ -74,23 +76,26 @@ pub record Core (waited : ℕ → Bool) (k : Kernel) : Type 0 where
 abbrev pub untrue : Kernel → ℕ → Bool
 untrue k i = not (isTrue (k .bits) (event k i))
 
--- a thread stays fine where what it waits for may be waited for in other semaphores and events
-fine-still : {S S′ : List Semaphore} {w w′ : ℕ → Bool} {r : Thread}
+-- a thread stays fine where what it waits for may be waited for among other semaphores, events and flags
+fine-still : {S S′ : List Semaphore} {w w′ : ℕ → Bool} {f f′ : ℕ} {r : Thread}
     → ((i : ℕ) → r .condition ≡ ForSemaphore i → Waitable (getD S i noSemaphore) → Waitable (getD S′ i noSemaphore))
-    → ((i : ℕ) → r .condition ≡ ForEvent i → i < eventCount → w i ≡ true → w′ i ≡ true) → FineThread S w r → FineThread S′ w′ r
-fine-still {S} {S′} {w} {w′} {r} s e F = record {
+    → ((i : ℕ) → r .condition ≡ ForEvent i → i < eventCount → w i ≡ true → w′ i ≡ true)
+    → ((i : ℕ) → r .condition ≡ ForFlag i → bitAt f i ≡ true → bitAt f′ i ≡ true) → FineThread S w f r → FineThread S′ w′ f′ r
+fine-still {S} {S′} {w} {w′} {f} {f′} {r} s e g F = record {
   living = λ l. let L = F .living l in
-      record { priority = L .priority; reply = L .reply; condition = go (r .condition) s e (L .condition) };
+      record { priority = L .priority; reply = L .reply; condition = go (r .condition) s e g (L .condition) };
   gone = F .gone;
 }
   where
     go : (c : Condition) → ((i : ℕ) → c ≡ ForSemaphore i → Waitable (getD S i noSemaphore) → Waitable (getD S′ i noSemaphore))
-        → ((i : ℕ) → c ≡ ForEvent i → i < eventCount → w i ≡ true → w′ i ≡ true) → Fits S w (r .ticks) c → Fits S′ w′ (r .ticks) c
-    go Ready s e h = h
-    go Asleep s e h = h
-    go (ForSemaphore i) s e h = s i refl h
-    go (ForEvent i) s e h = (h .0, e i refl (h .0) (h .1))
-    go (ForMessage mask) s e h = h
+        → ((i : ℕ) → c ≡ ForEvent i → i < eventCount → w i ≡ true → w′ i ≡ true)
+        → ((i : ℕ) → c ≡ ForFlag i → bitAt f i ≡ true → bitAt f′ i ≡ true) → Fits S w f (r .ticks) c → Fits S′ w′ f′ (r .ticks) c
+    go Ready s e g h = h
+    go Asleep s e g h = h
+    go (ForSemaphore i) s e g h = s i refl h
+    go (ForEvent i) s e g h = (h .0, e i refl (h .0) (h .1))
+    go (ForMessage mask) s e g h = h
+    go (ForFlag i) s e g h = (h .0, g i refl (h .1))
 
 -- an id with a live record is in reach
 live-inside : {A : Type 0} (live : A → Bool) (d : A) → live d ≡ false → (l : List A) (n : ℕ) → length l ≡ n
@@ -110,8 +115,8 @@ module _ {waited : ℕ → Bool} {k : Kernel} (C : Core waited k) where
   live-message = live-inside (λ r. r .live) noMessage refl (k .messages) messageCount (C .filed .count)
 
   -- of a thread that isn't live too
-  pub condition-of : (t : ℕ) → Fits (k .semaphores) waited (thread k t .ticks) (thread k t .condition)
-  condition-of t = live-or-not (λ r. Fits (k .semaphores) waited (r .ticks) (r .condition)) (C .threads t) (λ L. L .condition) refl
+  pub condition-of : (t : ℕ) → Fits (k .semaphores) waited (k .flags) (thread k t .ticks) (thread k t .condition)
+  condition-of t = live-or-not (λ r. Fits (k .semaphores) waited (k .flags) (r .ticks) (r .condition)) (C .threads t) (λ L. L .condition) refl
 
   -- one whose condition isn't ready is live
   pub live-waiter : (t : ℕ) → (thread k t .condition ≡ Ready → ⊥) → thread k t .live ≡ true
@@ -126,7 +131,7 @@ module _ {waited : ℕ → Bool} {k : Kernel} (C : Core waited k) where
         (λ e. let z = eqb-true u t e in rw (z, relocate-same (threadsOf k) t r (C .standing .count) b) (f z))
         (λ e. let ne = eqb-false u t e in rw (relocate-other (threadsOf k) t r ne) (g ne))
 
-    module _ (F : FineThread (k .semaphores) waited r) where
+    module _ (F : FineThread (k .semaphores) waited (k .flags) r) where
       pub place-core : ((m : ℕ) → message k m .live ≡ true → message k m .owner ≡ t
           → (r .live ≡ true) × (awaits (r .condition) (message k m .channel) ≡ false)) → Core waited (moveThread t r k)
       place-core owned = record {
@@ -134,7 +139,7 @@ module _ {waited : ℕ → Bool} {k : Kernel} (C : Core waited k) where
         filed = C .filed;
         semaphoresSized = C .semaphoresSized;
         eventsSized = C .eventsSized;
-        threads = λ u. each-thread (FineThread (k .semaphores) waited) u (λ _. F) (λ _. C .threads u);
+        threads = λ u. each-thread (FineThread (k .semaphores) waited (k .flags)) u (λ _. F) (λ _. C .threads u);
         semaphores = C .semaphores;
         messages = λ m. record {
           living = λ e. let L = C .messages m .living e in record {
@@ -192,7 +197,8 @@ module _ {waited : ℕ → Bool} {k : Kernel} (C : Core waited k) where
       filed = C .filed;
       semaphoresSized = length-set (k .semaphores) i s ∙ C .semaphoresSized;
       eventsSized = C .eventsSized;
-      threads = λ t. fine-still (λ j z. each-semaphore Waitable j (λ y. waiters t (z ∙ ap ForSemaphore y))) (λ _ _ _ w. w) (C .threads t);
+      threads = λ t. fine-still (λ j z. each-semaphore Waitable j (λ y. waiters t (z ∙ ap ForSemaphore y))) (λ _ _ _ w. w) (λ _ _ w. w)
+          (C .threads t);
       semaphores = λ j. each-semaphore KeptSemaphore j (λ _. F) (C .semaphores j);
       messages = C .messages;
     }
@@ -220,6 +226,19 @@ module _ {waited : ℕ → Bool} {k : Kernel} (C : Core waited k) where
     messages = C .messages;
   }
 
+  -- ---- flags: who waits for one may wait for it still
+  pub flags-core : (flags : ℕ) → ((t i : ℕ) → thread k t .condition ≡ ForFlag i → bitAt (k .flags) i ≡ true → bitAt flags i ≡ true)
+      → Core waited (withFlags flags k)
+  flags-core flags h = record {
+    standing = C .standing;
+    filed = C .filed;
+    semaphoresSized = C .semaphoresSized;
+    eventsSized = C .eventsSized;
+    threads = λ t. fine-still (λ _ _ w. w) (λ _ _ _ w. w) (h t) (C .threads t);
+    semaphores = C .semaphores;
+    messages = C .messages;
+  }
+
   -- other events are waited for
   pub core-weaken : {waited′ : ℕ → Bool}
       → ((t i : ℕ) → thread k t .condition ≡ ForEvent i → i < eventCount → waited i ≡ true → waited′ i ≡ true) → Core waited′ k
@@ -228,7 +247,7 @@ module _ {waited : ℕ → Bool} {k : Kernel} (C : Core waited k) where
     filed = C .filed;
     semaphoresSized = C .semaphoresSized;
     eventsSized = C .eventsSized;
-    threads = λ t. fine-still (λ _ _ f. f) (h t) (C .threads t);
+    threads = λ t. fine-still (λ _ _ w. w) (h t) (λ _ _ w. w) (C .threads t);
     semaphores = C .semaphores;
     messages = C .messages;
   }

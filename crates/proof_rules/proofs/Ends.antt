@@ -14,7 +14,7 @@ use Rattle.base_queue.specs.Queues.{capacity, items, Tidy}
 use Rattle.base_queue.specs.Tables.{Placed}
 use Rattle.base_queue.proofs.Tables.{placed-short}
 use Rattle.spec_kernel.specs.declared.records.Condition.{Condition}
-use Rattle.spec_kernel.specs.declared.records.Condition.the-variants.{Ready, Asleep, ForSemaphore, ForEvent, ForMessage}
+use Rattle.spec_kernel.specs.declared.records.Condition.the-variants.{Ready, Asleep, ForSemaphore, ForEvent, ForMessage, ForFlag}
 use Rattle.spec_kernel.specs.declared.records.Thread.{Thread}
 use Rattle.spec_kernel.specs.declared.records.Kernel.{Kernel}
 use Rattle.spec_kernel.specs.Sizes.{threadCount, messageCount}
@@ -31,29 +31,31 @@ use Rattle.spec_moves.specs.States.{scheduled}
 use Rattle.proof_rules.proofs.Core.{Fits, FineThread, Core, untrue, scheduler-core}
 
 -- ---- the records in both forms
-fits-condition : (k : Kernel) (ticks : ℕ) (c : Condition) → Fits (k .semaphores) (untrue k) ticks c → ConditionKept k ticks c
+fits-condition : (k : Kernel) (ticks : ℕ) (c : Condition) → Fits (k .semaphores) (untrue k) (k .flags) ticks c → ConditionKept k ticks c
 fits-condition k ticks Ready h = h
 fits-condition k ticks Asleep h = h
 fits-condition k ticks (ForSemaphore i) h = h
 fits-condition k ticks (ForEvent i) h = (h .0, not-true _ (h .1))
 fits-condition k ticks (ForMessage mask) h = h
+fits-condition k ticks (ForFlag i) h = h
 
-condition-fits : (k : Kernel) (ticks : ℕ) (c : Condition) → ConditionKept k ticks c → Fits (k .semaphores) (untrue k) ticks c
+condition-fits : (k : Kernel) (ticks : ℕ) (c : Condition) → ConditionKept k ticks c → Fits (k .semaphores) (untrue k) (k .flags) ticks c
 condition-fits k ticks Ready h = h
 condition-fits k ticks Asleep h = h
 condition-fits k ticks (ForSemaphore i) h = h
 condition-fits k ticks (ForEvent i) h = (h .0, rw (h .1))
 condition-fits k ticks (ForMessage mask) h = h
+condition-fits k ticks (ForFlag i) h = h
 
 module _ (k : Kernel) where
-  thread-kept : (r : Thread) → FineThread (k .semaphores) (untrue k) r → KeptThread k r
+  thread-kept : (r : Thread) → FineThread (k .semaphores) (untrue k) (k .flags) r → KeptThread k r
   thread-kept r F = record {
     living = λ e. let L = F .living e in
         record { priority = L .priority; reply = L .reply; condition = fits-condition k (r .ticks) (r .condition) (L .condition) };
     gone = F .gone;
   }
 
-  thread-fine : (r : Thread) → KeptThread k r → FineThread (k .semaphores) (untrue k) r
+  thread-fine : (r : Thread) → KeptThread k r → FineThread (k .semaphores) (untrue k) (k .flags) r
   thread-fine r K = record {
     living = λ e. let L = K .living e in
         record { priority = L .priority; reply = L .reply; condition = condition-fits k (r .ticks) (r .condition) (L .condition) };
@@ -116,6 +118,7 @@ low-ready r e = go (r .live) (r .condition) (ltb-true _ 256 e)
     go true (ForSemaphore i) h = absurd (omega arith)
     go true (ForEvent i) h = absurd (omega arith)
     go true (ForMessage mask) h = absurd (omega arith)
+    go true (ForFlag i) h = absurd (omega arith)
 
 chosen-ready : (k : Kernel) → (chosen k ≡ 255 → ⊥) → isReady (thread k (chosen k)) ≡ true
 unfolding chosen

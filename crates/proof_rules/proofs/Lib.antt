@@ -7,6 +7,7 @@ pub mod OfMessages
 pub mod OfDestroy
 pub mod Wakings
 pub mod OfEvents
+pub mod OfFlags
 pub mod Free
 pub mod Semaphores
 pub mod OfTime

@@ -40,9 +40,9 @@ module _ {w : ℕ → Bool} {k : Kernel} (C : Core w k) where
   worked-standing = outs-standing (k .events) (k .bits) 0 eventCount (C .standing)
 
   -- those that wake are live
-  worked-becomes : (t : ℕ) → Becomes (k .semaphores) w (thread k t) (threadIn after t)
+  worked-becomes : (t : ℕ) → Becomes (k .semaphores) w (k .flags) (thread k t) (threadIn after t)
   worked-becomes t =
-      outs-last (k .events) (k .bits) (Becomes (k .semaphores) w (thread k t)) (λ r l B. becomes-awake B l Wake.Met)
+      outs-last (k .events) (k .bits) (Becomes (k .semaphores) w (k .flags) (thread k t)) (λ r l B. becomes-awake B l Wake.Met)
       0 eventCount (omega arith)
       (C .standing) t (stays (C .threads t))
 

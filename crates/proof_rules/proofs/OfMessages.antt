@@ -14,7 +14,7 @@ use Rattle.base_queue.specs.Lists.{count, keep, firstOf}
 use Rattle.base_queue.specs.Queues.{items}
 use Rattle.base_queue.proofs.Counts.{count-head, count-keep, kept}
 use Rattle.spec_kernel.specs.declared.records.Condition.{Condition}
-use Rattle.spec_kernel.specs.declared.records.Condition.the-variants.{Ready, Asleep, ForSemaphore, ForEvent, ForMessage}
+use Rattle.spec_kernel.specs.declared.records.Condition.the-variants.{Ready, Asleep, ForSemaphore, ForEvent, ForMessage, ForFlag}
 use Rattle.spec_kernel.specs.declared.records.Wake.{Wake}
 use Rattle.spec_kernel.specs.declared.records.Thread.{Thread}
 use Rattle.spec_kernel.specs.declared.records.Message.{Message}
@@ -45,6 +45,7 @@ held-unawaited Asleep = refl
 held-unawaited (ForSemaphore i) = refl
 held-unawaited (ForEvent i) = refl
 held-unawaited (ForMessage mask) = refl
+held-unawaited (ForFlag i) = refl
 
 -- ---- records
 pub none-fine : {T : List Thread} → FineMessage T noMessage

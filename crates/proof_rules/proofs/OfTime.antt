@@ -8,7 +8,7 @@ use lib.Dec.{eqb}
 use borrow.Author.Tests.{eqb-true, eqb-false}
 use borrow.Table.Steps.{cases}
 use Rattle.spec_kernel.specs.declared.records.Condition.{Condition}
-use Rattle.spec_kernel.specs.declared.records.Condition.the-variants.{Ready, Asleep, ForSemaphore, ForEvent, ForMessage}
+use Rattle.spec_kernel.specs.declared.records.Condition.the-variants.{Ready, Asleep, ForSemaphore, ForEvent, ForMessage, ForFlag}
 use Rattle.spec_kernel.specs.declared.records.Thread.{Thread}
 use Rattle.spec_kernel.specs.declared.records.Semaphore.{Semaphore}
 use Rattle.spec_kernel.specs.declared.records.Kernel.{Kernel}
@@ -31,20 +31,21 @@ use Rattle.proof_rules.proofs.Wakings.{woken, asDue, passes-standing, p
 use Rattle.proof_rules.proofs.AllThreads.{Becomes, stays, becomes-awake, threads-core}
 
 -- ---- threads
-module _ (S : List Semaphore) (waited : ℕ → Bool) where
+module _ (S : List Semaphore) (waited : ℕ → Bool) (flags : ℕ) where
   -- who isn't due waits on
-  aged-fits : (n : ℕ) (c : Condition) → (n ≡ 1 → ⊥) → Fits S waited n c → Fits S waited (n - 1) c
+  aged-fits : (n : ℕ) (c : Condition) → (n ≡ 1 → ⊥) → Fits S waited flags n c → Fits S waited flags (n - 1) c
   aged-fits n Ready h f = omega arith
   aged-fits n Asleep h f = omega (arith, h)
   aged-fits n (ForSemaphore i) h f = f
   aged-fits n (ForEvent i) h f = f
   aged-fits n (ForMessage mask) h f = f
+  aged-fits n (ForFlag i) h f = f
 
   -- who is due is live
-  due-live : (r : Thread) → FineThread S waited r → r .ticks ≡ 1 → r .live ≡ true
+  due-live : (r : Thread) → FineThread S waited flags r → r .ticks ≡ 1 → r .live ≡ true
   due-live r F e = cases (r .live) (λ l. l) (λ l. let z : _≡_ {A = ℕ} 0 1 = rw (F .gone l) at e in absurd (omega arith))
 
-  passes-becomes : (r : Thread) → FineThread S waited r → Becomes S waited r (aged (cond (eqb (r .ticks) 1) (woken asDue r) r))
+  passes-becomes : (r : Thread) → FineThread S waited flags r → Becomes S waited flags r (aged (cond (eqb (r .ticks) 1) (woken asDue r) r))
   passes-becomes r F =
       cases (eqb (r .ticks) 1) (λ e. rw e (becomes-awake (stays F) (due-live r F (eqb-true (r .ticks) 1 e)) (reasonAt (r .condition))))
       (λ e. rw e
@@ -112,8 +113,9 @@ pulses-keep C i (suc n) =
     (D′, λ r. R′ (R r), U′ ∙ U)
 
 -- what the time makes of each thread
-becomes : {k : Kernel} → Before k → (t : ℕ) → Becomes (k .semaphores) (untrue k) (thread k t) (threadIn (timePasses (threadsOf k)) t)
-becomes {k} B t = rw (passes-record (B .core .standing) t) (passes-becomes (k .semaphores) (untrue k) (thread k t) (B .core .threads t))
+becomes : {k : Kernel} → Before k → (t : ℕ) → Becomes (k .semaphores) (untrue k) (k .flags) (thread k t) (threadIn (timePasses (threadsOf k)) t)
+becomes {k} B t = rw (passes-record (B .core .standing) t)
+    (passes-becomes (k .semaphores) (untrue k) (k .flags) (thread k t) (B .core .threads t))
 
 -- the time has passed for the threads, and then i semaphores have had their turn
 turns-keep : {k : Kernel} → Before k → (i : ℕ) → Keeps (untrue k) (passed k) (turnOf k i)

@@ -36,7 +36,7 @@ use Rattle.proof_rules.proofs.Steps.{semaphore-waiter, line-live, wake-
 living : {s : Semaphore} → s .live ≡ true → LiveSemaphore s → KeptSemaphore s
 living l L = record { living = λ _. L; gone = λ e. absurd (false≢true (sym e ∙ l)) }
 
-empty : (l : List ℕ) → isEmpty l ≡ true → l ≡ []
+pub empty : (l : List ℕ) → isEmpty l ≡ true → l ≡ []
 empty [] h = refl
 empty (x ∷ l) h = absurd (false≢true h)
 
@@ -98,7 +98,7 @@ module _ {k : Kernel} (B : Before k) {c : Call} (A : Accepted k c) where
   kind-15 e =
       let b = live-semaphore (B .core) (c .a) (semaphore-named A e refl) in
       let w = sym (has-waiters k c (B .core .standing .count) (omega arith)) ∙ A .waiters in
-      let none = empty (semaphoreQueue k (c .a)) (not-false (isEmpty (semaphoreQueue k (c .a))) (rw e at w)) in
+      let none = empty (semaphoreQueue k (c .a)) (not-false (isEmpty (semaphoreQueue k (c .a))) (rw (e, or-false) at w)) in
       semaphore-good (c .a) noSemaphore (record { living = λ l. absurd (false≢true l); gone = λ _. refl })
       (λ t w. absurd (none-waits (B .core) (c .a) none t w))
 

@@ -32,17 +32,17 @@ use Rattle.proof_rules.proofs.Ends.{Runs, Good, Before}
 use Rattle.proof_rules.proofs.Accepted.{Accepted, called}
 
 -- ---- records
-module _ {S : List Semaphore} {waited : ℕ → Bool} {r : Thread} (F : FineThread S waited r) (l : r .live ≡ true) where
+module _ {S : List Semaphore} {waited : ℕ → Bool} {flags : ℕ} {r : Thread} (F : FineThread S waited flags r) (l : r .live ≡ true) where
   -- a live thread wakes
-  pub awake-fine : (why : Wake) (reply : ℕ) → (reply < messageCount) ⊎ (reply ≡ 255) → FineThread S waited (awake why reply r)
+  pub awake-fine : (why : Wake) (reply : ℕ) → (reply < messageCount) ⊎ (reply ≡ 255) → FineThread S waited flags (awake why reply r)
   awake-fine why reply b = record {
     living = λ _. record { priority = F .living l .priority; reply = b; condition = refl };
     gone = λ e. absurd (false≢true (sym e ∙ l));
   }
 
   -- or blocks
-  pub blocked-fine : (condition : Condition) (timeout : ℕ) → Fits S waited timeout condition
-      → FineThread S waited (blocked condition timeout r)
+  pub blocked-fine : (condition : Condition) (timeout : ℕ) → Fits S waited flags timeout condition
+      → FineThread S waited flags (blocked condition timeout r)
   blocked-fine condition timeout f = record {
     living = λ _. record { priority = F .living l .priority; reply = inr refl; condition = f };
     gone = λ e. absurd (false≢true (sym e ∙ l));
@@ -97,7 +97,7 @@ caller-ready B A f = B .running (called A f)
 
 -- where no region is held it may block
 pub block-good : {k : Kernel} → Before k → isReady (thread k (k .runner)) ≡ true → (condition : Condition) (timeout : ℕ)
-    → Fits (k .semaphores) (untrue k) timeout condition → inRegion (k .unscheduled) (k .critical) ≡ false
+    → Fits (k .semaphores) (untrue k) (k .flags) timeout condition → inRegion (k .unscheduled) (k .critical) ≡ false
     → ((m : ℕ) → message k m .live ≡ true → message k m .owner ≡ k .runner → awaits condition (message k m .channel) ≡ false)
     → Good (block condition timeout k)
 unfolding block

@@ -26,7 +26,7 @@ use Rattle.proof_rules.proofs.Accepted.{Accepted, inside, thread-named}
 use Rattle.proof_rules.proofs.Steps.{ready-live, caller-ready, place-runs, block-good}
 
 -- ---- records
-born-fine : {S : List Semaphore} {waited : ℕ → Bool} (p : ℕ) → 1 ≤ p → p ≤ priorityCount → FineThread S waited (born p)
+born-fine : {S : List Semaphore} {waited : ℕ → Bool} {flags : ℕ} (p : ℕ) → 1 ≤ p → p ≤ priorityCount → FineThread S waited flags (born p)
 born-fine p low high = record {
   living = λ _. record { priority = (low, high, low, high); reply = inr refl; condition = refl };
   gone = λ e. absurd (false≢true (sym e));
@@ -40,7 +40,7 @@ module _ {k : Kernel} (B : Before k) where
       let b = live-thread C t l in
       let L = C .threads t .living l in
       let r : Thread = withPriority p (thread k t) in
-      let F : FineThread (k .semaphores) (untrue k) r = record {
+      let F : FineThread (k .semaphores) (untrue k) (k .flags) r = record {
         living = λ _. record { priority = (low, high, L .priority .2, L .priority .3); reply = L .reply; condition = L .condition };
         gone = λ e. absurd (false≢true (sym e ∙ l));
       } in

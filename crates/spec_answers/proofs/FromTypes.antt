@@ -19,7 +19,7 @@ use Rattle.spec_kernel.proofs.records.Semaphore as semaphores
 use Rattle.spec_kernel.proofs.records.Event as events
 use Rattle.spec_kernel.proofs.records.Message as messages
 use Rattle.spec_kernel.specs.declared.records.Condition.{Condition}
-use Rattle.spec_kernel.specs.declared.records.Condition.the-variants.{Ready, Asleep, ForSemaphore, ForEvent, ForMessage}
+use Rattle.spec_kernel.specs.declared.records.Condition.the-variants.{Ready, Asleep, ForSemaphore, ForEvent, ForMessage, ForFlag}
 use Rattle.spec_kernel.specs.declared.records.Thread.{Thread}
 use Rattle.spec_kernel.specs.declared.records.Semaphore.{Semaphore}
 use Rattle.spec_kernel.specs.declared.records.Event.{Event}
@@ -47,6 +47,7 @@ condition-tells Asleep vs s = omega arith
 condition-tells (ForSemaphore i) vs s = let h : i < 256 = s .1 .1 .1 .1 .0 .1 in omega arith
 condition-tells (ForEvent i) vs s = let h : i < 256 = s .1 .1 .1 .1 .0 .1 in omega arith
 condition-tells (ForMessage mask) vs s = s .1 .1 .1 .1 .0 .1
+condition-tells (ForFlag i) vs s = let h : i < 256 = s .1 .1 .1 .1 .0 .1 in omega arith
 
 module _ (k : Kernel) (vs : List Val) (s : Is kernels.the-row k vs) where
   -- ---- of each record what its own type tells

@@ -8,7 +8,7 @@ pub const THREAD_OR_BOOT: u8 = 1;
 pub const INTERRUPT: u8 = 2;
 
 // Which one of a class the call names, or can touch: nobody; that of id a, of id b; the running thread; the first that waits for
-// semaphore a; the one that is made; the message that a pend gets; event bit a; any of them.
+// semaphore or flag a; the one that is made; the message that a pend gets; event bit a; any of them.
 pub const NOBODY: u8 = 0;
 
 pub const A: u8 = 1;
@@ -28,7 +28,7 @@ pub const BIT: u8 = 7;
 pub const ALL: u8 = 8;
 
 // Kinds go from 1 to this.
-pub const LAST_KIND: u8 = 30;
+pub const LAST_KIND: u8 = 34;
 
 // A row of the table: `used` has a bit for each field with a meaning, 1 for a, 2 for b, 4 for c, 8 for d.
 pub struct Kind {
@@ -38,4 +38,5 @@ pub struct Kind {
     pub semaphore: u8,
     pub event: u8,
     pub message: u8,
+    pub flag: u8,
 }

@@ -9,11 +9,11 @@ use lib.Dec.{eqb}
 use lib.ListN.{getD}
 use borrow.Table.Steps.{cases}
 use Rattle.spec_kernel.specs.declared.records.Condition.{Condition}
-use Rattle.spec_kernel.specs.declared.records.Condition.the-variants.{Ready, Asleep, ForSemaphore, ForEvent, ForMessage}
+use Rattle.spec_kernel.specs.declared.records.Condition.the-variants.{Ready, Asleep, ForSemaphore, ForEvent, ForMessage, ForFlag}
 use Rattle.spec_kernel.specs.declared.records.Semaphore.{Semaphore}
 use Rattle.spec_kernel.specs.declared.records.Kernel.{Kernel}
 use Rattle.spec_kernel.specs.Records.{thread}
-use Rattle.spec_kernel.specs.Free.{freeThread, freeSemaphore, freeMessage}
+use Rattle.spec_kernel.specs.Free.{freeThread, freeSemaphore, freeMessage, freeFlag}
 use Rattle.spec_kernel.specs.Channels.{nextMessage}
 use Rattle.spec_kernel.specs.Conditions.{isReady, readyFor}
 use Rattle.spec_calls.specs.declared.call.Call.{Call}
@@ -27,12 +27,13 @@ use Rattle.proof_rules.proofs.Accepted.{Accepted}
 use Rattle.proof_rules.proofs.Steps.{caller-ready}
 
 -- who is ready has no ticks left
-ready-untimed : (S : List Semaphore) (waited : ℕ → Bool) (n : ℕ) (c : Condition) → readyFor c ≡ true → Fits S waited n c → n ≡ 0
-ready-untimed S waited n Ready e f = f
-ready-untimed S waited n Asleep e f = absurd (false≢true e)
-ready-untimed S waited n (ForSemaphore i) e f = absurd (false≢true e)
-ready-untimed S waited n (ForEvent i) e f = absurd (false≢true e)
-ready-untimed S waited n (ForMessage mask) e f = absurd (false≢true e)
+ready-untimed : (S : List Semaphore) (waited : ℕ → Bool) (flags n : ℕ) (c : Condition) → readyFor c ≡ true → Fits S waited flags n c → n ≡ 0
+ready-untimed S waited flags n Ready e f = f
+ready-untimed S waited flags n Asleep e f = absurd (false≢true e)
+ready-untimed S waited flags n (ForSemaphore i) e f = absurd (false≢true e)
+ready-untimed S waited flags n (ForEvent i) e f = absurd (false≢true e)
+ready-untimed S waited flags n (ForMessage mask) e f = absurd (false≢true e)
+ready-untimed S waited flags n (ForFlag i) e f = absurd (false≢true e)
 
 module _ {waited : ℕ → Bool} {k : Kernel} (C : Core waited k) where
   pub bytes : (t : ℕ) → thread k t .priority < 256
@@ -40,7 +41,7 @@ module _ {waited : ℕ → Bool} {k : Kernel} (C : Core waited k) where
 
   untimed : (t : ℕ) → isReady (thread k t) ≡ true → thread k t .ticks ≡ 0
   untimed t e =
-      ready-untimed (k .semaphores) waited (thread k t .ticks) (thread k t .condition)
+      ready-untimed (k .semaphores) waited (k .flags) (thread k t .ticks) (thread k t .condition)
       (and-eq-true-iff (thread k t .live) (readyFor (thread k t .condition)) .0 e .1) (condition-of C t)
 
   -- who has ticks left is live, and sleeps or waits
@@ -63,7 +64,8 @@ valueAt n k c =
     cond (eqb (getD kinds n noKind .thread) theNew) (freeThread k)
     (cond (eqb (getD kinds n noKind .semaphore) theNew) (freeSemaphore k)
     (cond (eqb (getD kinds n noKind .message) theNew) (freeMessage k)
-    (cond (eqb (getD kinds n noKind .message) theTaken) (nextMessage k (c .b)) 255)))
+    (cond (eqb (getD kinds n noKind .message) theTaken) (nextMessage k (c .b))
+    (cond (eqb (getD kinds n noKind .flag) theNew) (freeFlag k) 255))))
 
 pub by-kind : (k : Kernel) (c : Call) {n : ℕ} → c .kind ≡ n → (k′ : Kernel) → getD lawsOfKinds n noLaw k c (valueAt n k c) k′
     → lawOf k c (valueOf k c) k′

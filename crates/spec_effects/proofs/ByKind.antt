@@ -23,9 +23,9 @@ module _ (k : Kernel) (c : Call) where
   does-at n e = rw e
 
   -- past the last kind nothing is done
-  pub does-past : 31 ≤ c .kind → k ≡ effect k c
+  pub does-past : 35 ≤ c .kind → k ≡ effect k c
   does-past h =
-      let z = past-end effectsOfKinds nothing {k = 31} {u = c .kind} refl h in
+      let z = past-end effectsOfKinds nothing {k = 35} {u = c .kind} refl h in
       ap (λ (d : Does). d k c) (sym z) ∙ does-at (c .kind) refl
 
 -- ---- a fact of each kind, in the table's order

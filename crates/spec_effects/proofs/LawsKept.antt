@@ -1,15 +1,15 @@
 -- Every accepted call does what the law of its kind says.
 use Prim.Native.Nat.{ℕ, _<_}
 use mathlib.Core.Path.{_≡_, refl}
-use mathlib.Core.Bool.{true, false, or-false}
+use mathlib.Core.Bool.{true, false, _&&_, or-false, and-eq-true-iff}
 use native.Mathlib.Omega.{arith}
-use lib.Dec.{ltb, leb}
+use lib.Dec.{eqb, ltb, leb}
 use lib.ListN.{length, getD}
-use borrow.Author.Tests.{eqb-false, leb-false}
+use borrow.Author.Tests.{eqb-true, eqb-false, leb-false, not-false}
 use Rattle.spec_kernel.specs.declared.records.Kernel.{Kernel}
 use Rattle.spec_kernel.specs.Sizes.{eventCount, priorityCount, channelCount, bitCount}
 use Rattle.spec_kernel.specs.Records.{semaphore, message, noThread, noSemaphore, noMessage}
-use Rattle.spec_kernel.specs.Free.{freeThread, freeSemaphore, freeMessage}
+use Rattle.spec_kernel.specs.Free.{freeThread, freeSemaphore, freeMessage, freeFlag}
 use Rattle.spec_kernel.specs.Places.{isQueued}
 use Rattle.spec_kernel.specs.Channels.{nextMessage}
 use Rattle.spec_kernel.proofs.LowestFree.{free-is-free, free-is-lowest}
@@ -17,11 +17,12 @@ use Rattle.spec_rules.specs.Rules.{Sized, Rules}
 use Rattle.spec_calls.specs.declared.call.Call.{Call}
 use Rattle.spec_calls.specs.Kinds.{kinds, noKind, names, kindOf, fromThread}
 use Rattle.spec_refusals.specs.Named.{named, valueOf}
-use Rattle.spec_refusals.specs.Refusals.{badNumber, badId, isInChannel, noneFree, outside, numberOf}
+use Rattle.spec_refusals.specs.Refusals.{badNumber, badId, isInChannel, blocksInRegion, noneFree, outside, numberOf}
 use Rattle.spec_threads.specs.Threads.{createThread, destroyThread, setPriority, resetPriority, yielded, sleep}
 use Rattle.spec_regions.specs.Regions.{pushUnscheduled, popUnscheduled, popAllUnscheduled, pushCritical, popCritical, popAllCritical}
 use Rattle.spec_semaphores.specs.Semaphores.{createSemaphore, destroySemaphore, makePeriodic, removePeriodic, pendSemaphore, postSemaphore}
 use Rattle.spec_events.specs.Events.{loadEvent, pendEvent, setBit, clearBit}
+use Rattle.spec_flags.specs.Flags.{createFlag, destroyFlag, pendFlag, postFlag}
 use Rattle.spec_messages.specs.Messages.{createMessage, destroyMessage, postMessage, pendMessage}
 use Rattle.spec_time.specs.Time.{tick}
 use Rattle.spec_laws.specs.Laws.{lawOf}
@@ -29,6 +30,7 @@ use Rattle.spec_laws.specs.OfThreads.{Created}
 use Rattle.spec_laws.specs.OfSemaphores.{CreatedSemaphore, PostedSemaphore}
 use Rattle.spec_laws.specs.OfMessages.{CreatedMessage, PendedMessage}
 use Rattle.spec_laws.specs.OfEvents.{BitIs}
+use Rattle.spec_laws.specs.OfFlags.{CreatedFlag}
 use Rattle.spec_threads.proofs.LawsOfThreads.{create-creates, yield-yields, set-priority-sets, reset-priority-sets}
 use Rattle.spec_threads.proofs.LawsOfDestroying.{destroy-destroys}
 use Rattle.spec_threads.proofs.LawsOfBlocking.{sleep-blocks}
@@ -36,6 +38,7 @@ use Rattle.spec_regions.proofs.LawsOfRegions.{push-unscheduled, pop-unscheduled
 use Rattle.spec_regions.proofs.LawsOfRegions.{push-critical, pop-critical, pop-all-critical}
 use Rattle.spec_semaphores.proofs.LawsOfSemaphores.{create-makes, destroy-clears, make-replaces, remove-clears, post-posts, pend-pends}
 use Rattle.spec_events.proofs.LawsOfEvents.{set-sets, clear-clears, load-loads, pend-event-pends}
+use Rattle.spec_flags.proofs.LawsOfFlags.{create-flag-creates, destroy-flag-clears, pend-flag-pends, post-flag-posts}
 use Rattle.spec_messages.proofs.LawsOfMessages.{pend-message-pends, post-message-posts, create-message-makes, destroy-message-clears}
 use Rattle.spec_time.proofs.LawsOfTime.{tick-ticks}
 use Rattle.proof_rules.proofs.Core.{live-thread, live-semaphore, live-message}
@@ -229,6 +232,31 @@ module _ {k : Kernel} (B : Before k) {c : Call} (A : Accepted k c) where
       pend-message-pends k c (B .core .filed) (B .core .standing) (runnable B A (rw e)) in
       by-kind k c e _ L
 
+  -- ---- flags
+  kind-31 : c .kind ≡ 31 → Holds (createFlag k c)
+  unfolding kindOf noneFree named valueOf
+  kind-31 e =
+      let L : CreatedFlag (freeFlag k) k (createFlag k c) =
+      create-flag-creates k c (eqb-false (freeFlag k) 255 (simp (e, or-false) at (A .free))) in
+      by-kind k c e _ L
+
+  kind-32 : c .kind ≡ 32 → Holds (destroyFlag k c)
+  kind-32 e = by-kind k c e _ (refl, destroy-flag-clears k c)
+
+  kind-33 : c .kind ≡ 33 → Holds (pendFlag k c)
+  unfolding kindOf fromThread blocksInRegion
+  kind-33 e =
+      let (u, one) =
+      and-eq-true-iff (eqb (k .unscheduled) 0) (eqb (k .critical) 1) .0
+      (not-false (eqb (k .unscheduled) 0 && eqb (k .critical) 1) (rw e at (A .region))) in
+      by-kind k c e _ (
+        refl,
+        pend-flag-pends k c (B .core .standing) (eqb-true (k .unscheduled) 0 u) (eqb-true (k .critical) 1 one) (runnable B A (rw e)),
+      )
+
+  kind-34 : c .kind ≡ 34 → Holds (postFlag k c)
+  kind-34 e = by-kind k c e _ (refl, post-flag-posts k c (B .core .standing) (bytes (B .core)))
+
   -- ---- the tick: each turn meets a state that keeps the core of the rules
   kind-1 : c .kind ≡ 1 → Holds (tick k c)
   kind-1 e =
@@ -273,6 +301,10 @@ module _ {k : Kernel} (B : Before k) {c : Call} (A : Accepted k c) (u : k .unsch
       ▸ kind-28 B A
       ▸ kind-29 B A
       ▸ kind-30 B A
+      ▸ kind-31 B A
+      ▸ kind-32 B A
+      ▸ kind-33 B A
+      ▸ kind-34 B A
       ▸ end
 
 -- From the rules and "accepted" the law of the kind; the levels are bytes, as the types have them.

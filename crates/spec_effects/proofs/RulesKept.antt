@@ -11,6 +11,7 @@ use Rattle.proof_rules.proofs.Threads.{kind-2, kind-4, kind-5, kind-6, kind-7}
 use Rattle.proof_rules.proofs.OfTime.{kind-1}
 use Rattle.proof_rules.proofs.OfDestroy.{kind-3}
 use Rattle.proof_rules.proofs.OfEvents.{kind-20, kind-21, kind-22, kind-23, kind-29, kind-30}
+use Rattle.proof_rules.proofs.OfFlags.{kind-31, kind-32, kind-33, kind-34}
 use Rattle.proof_rules.proofs.OfMessages.{kind-24, kind-25, kind-26, kind-27}
 use Rattle.proof_rules.proofs.Regions.{kind-8, kind-9, kind-10, kind-11, kind-12, kind-13}
 use Rattle.proof_rules.proofs.Semaphores.{kind-14, kind-15, kind-16, kind-17, kind-18, kind-19, kind-28}
@@ -52,6 +53,10 @@ module _ {k : Kernel} {c : Call} (B : Before k) (A : Accepted k c) where
       ▸ kind-28 B A
       ▸ kind-29 B A
       ▸ kind-30 B A
+      ▸ kind-31 B A
+      ▸ kind-32 B A
+      ▸ kind-33 B A
+      ▸ kind-34 B A
       ▸ end
 
 pub rules-kept : (k : Kernel) (c : Call) → Sized k → Rules k → numberOf k c ≡ 0

@@ -7,6 +7,7 @@ use Rattle.spec_threads.specs.Threads.{createThread, destroyThread, setPriority
 use Rattle.spec_regions.specs.Regions.{pushUnscheduled, popUnscheduled, popAllUnscheduled, pushCritical, popCritical, popAllCritical}
 use Rattle.spec_semaphores.specs.Semaphores.{createSemaphore, destroySemaphore, makePeriodic, removePeriodic, pendSemaphore, postSemaphore}
 use Rattle.spec_events.specs.Events.{loadEvent, pendEvent, setBit, clearBit}
+use Rattle.spec_flags.specs.Flags.{createFlag, destroyFlag, pendFlag, postFlag}
 use Rattle.spec_messages.specs.Messages.{createMessage, destroyMessage, postMessage, pendMessage}
 use Rattle.spec_time.specs.Time.{tick}
 
@@ -17,7 +18,7 @@ Does = Kernel → Call → Kernel
 abbrev pub nothing : Does
 nothing k c = k
 
--- What each kind does [01, calls]; 0 is no kind.
+-- What each kind does [01, calls; 02 §1]; 0 is no kind.
 abbrev pub effectsOfKinds : List Does
 effectsOfKinds =
     nothing
@@ -51,6 +52,10 @@ effectsOfKinds =
     ∷ postSemaphore  -- 28
     ∷ setBit  -- 29
     ∷ clearBit  -- 30
+    ∷ createFlag  -- 31
+    ∷ destroyFlag  -- 32
+    ∷ pendFlag  -- 33
+    ∷ postFlag  -- 34
     ∷ []
 
 unfoldable pub effect : Kernel → Call → Kernel

@@ -34,13 +34,9 @@ use Rattle.spec_threads.specs.Threads.{wakeIn, wokenIn}
 use Rattle.spec_threads.proofs.LawsOfHomes.{Runnable}
 use Rattle.spec_threads.proofs.LawsOfLists.{keep-none}
 use Rattle.spec_threads.proofs.LawsOfHomes.{line-home, line-absent, line-once, line-stopped}
-use Rattle.spec_threads.proofs.LawsOfWaking.{Called, AllWoken, each-woken}
+use Rattle.spec_threads.proofs.LawsOfWaking.{Called, AllWoken, each-woken, Bytes, line-called}
 use Rattle.spec_threads.proofs.LawsOfBlocking.{block-blocks}
 use Rattle.spec_laws.specs.OfEvents.{waitersFrom, WorkedOut, LoadedEvent, PendedEvent, BitIs}
-
--- every priority is a byte
-abbrev pub Bytes : Threads → Type 0
-Bytes p = (t : ℕ) → threadIn p t .priority < 256
 
 -- those of a, then those of b
 each-append : (f : ℕ → Threads → Threads) (a b : List ℕ) (p : Threads) → each f (a ++ b) p ≡ each f b (each f a p)
@@ -121,8 +117,8 @@ module _ (events : List Event) (bits : ℕ) where
 
   module _ {p : Threads} (S : Standing p) (B : Bytes p) where
     -- the waiters of one event are each named once, and wait
-    line-called : (i : ℕ) → Called p (atHomeIn p (home ofEvents i))
-    line-called i t c = (omega (arith, line-once S t (home ofEvents i)), line-stopped S t (B t) (omega arith) c)
+    event-called : (i : ℕ) → Called p (atHomeIn p (home ofEvents i))
+    event-called i = line-called S B (home ofEvents i) (omega arith)
 
     waiters-called : (i n : ℕ) → Called p (waitersFrom met (queues p) i n)
     waiters-called i n t c =
@@ -132,12 +128,12 @@ module _ (events : List Event) (bits : ℕ) where
     -- once one event is worked out all stand in place, and the priorities and the later events' queues are as they were
     line-stands : (i : ℕ) → Standing (wokenIn (home ofEvents i) p)
     unfolding wokenIn wakeIn
-    line-stands i = each-woken asMet (atHomeIn p (home ofEvents i)) S (line-called i) .standing
+    line-stands i = each-woken asMet (atHomeIn p (home ofEvents i)) S (event-called i) .standing
 
     line-bytes : (i : ℕ) → Bytes (wokenIn (home ofEvents i) p)
     unfolding wokenIn wakeIn
     line-bytes i t =
-        let A = each-woken asMet (atHomeIn p (home ofEvents i)) S (line-called i) in
+        let A = each-woken asMet (atHomeIn p (home ofEvents i)) S (event-called i) in
         cases (ltb 0 (count t (atHomeIn p (home ofEvents i))))
         (λ e. rw (A .woken t (ltb-true 0 _ e)) (B t))
         (λ e. rw (A .others t (omega (arith, ltb-false))) (B t))
@@ -145,7 +141,7 @@ module _ (events : List Event) (bits : ℕ) where
     line-later : (i j : ℕ) → i < j → atHomeIn (wokenIn (home ofEvents i) p) (home ofEvents j) ≡ atHomeIn p (home ofEvents j)
     unfolding wokenIn wakeIn
     line-later i j b =
-        let A = each-woken asMet (atHomeIn p (home ofEvents i)) S (line-called i) in
+        let A = each-woken asMet (atHomeIn p (home ofEvents i)) S (event-called i) in
         A .queues (home ofEvents j) (omega arith)
         ∙ keep-all (atHomeIn p (home ofEvents j))
         (λ t c. rw (line-absent S t (home ofEvents i) (λ z. omega (arith, line-home S t (home ofEvents j) c))))
@@ -202,11 +198,13 @@ module _ (events : List Event) (bits : ℕ) where
           (λ t c. rw (lt-ltb 0 (count t called) (waits-waiter met S t 0 eventCount i (omega arith) (omega arith) m c)));
       events = λ i b m. queue-stays (home ofEvents i) (omega arith) (λ j s n z. let e : i ≡ j = omega arith in false≢true (sym m ∙ rw e n));
       semaphores = λ i b. queue-stays (256 + i) (omega arith) (λ j s n z. omega arith);
+      flags = λ i b. queue-stays (768 + i) (omega arith) (λ j s n z. omega arith);
       lists = all-woken .lists;
       time = all-woken .time;
       woken = λ t i b m c. all-woken .woken t (waits-waiter met S t 0 eventCount i (omega arith) (omega arith) m c);
       others = λ t h. all-woken .others t (uncalled t h);
       counts = refl;
+      live = refl;
       messages = record { records = refl; posted = refl };
       scheduler = record { uptime = refl; unscheduled = refl; critical = refl; runner = refl };
     }

@@ -1,8 +1,10 @@
 -- Free ids: what is created gets the lowest [01, modelled 5].
-use Prim.Native.Nat.{ℕ, suc}
+use Prim.Native.Nat.{ℕ, zero, suc}
 use mathlib.Core.Bool.{Bool, cond}
 use mathlib.Core.List.{List, [], _∷_}
+use Rattle.base_bits.specs.Words.{bitAt}
 use Rattle.spec_kernel.specs.declared.records.Kernel.{Kernel}
+use Rattle.spec_kernel.specs.Sizes.{flagCount}
 
 module _ {A : Type 0} where
   -- the first place, counted from k, whose record isn't live; 255 where every one is
@@ -18,3 +20,11 @@ freeSemaphore k = lowestFree (λ r. r .live) 0 (k .semaphores)
 
 abbrev pub freeMessage : Kernel → ℕ
 freeMessage k = lowestFree (λ r. r .live) 0 (k .messages)
+
+-- the first of n bits from i on that is clear; 255 where every one is set
+abbrev pub lowestClear : ℕ → ℕ → ℕ → ℕ
+lowestClear word i zero = 255
+lowestClear word i (suc n) = let r = lowestClear word (suc i) n in cond (bitAt word i) r i
+
+abbrev pub freeFlag : Kernel → ℕ
+freeFlag k = lowestClear (k .flags) 0 flagCount

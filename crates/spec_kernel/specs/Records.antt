@@ -1,9 +1,11 @@
 -- The records as document 01 numbers them, and the fresh state.
 use Prim.Native.Nat.{ℕ}
-use mathlib.Core.Bool.{true, false}
+use mathlib.Core.Bool.{Bool, true, false, _&&_}
 use mathlib.Core.List.{[]}
+use lib.Dec.{ltb}
 use lib.ListN.{getD, replicate}
-use Rattle.spec_kernel.specs.Sizes.{threadCount, semaphoreCount, eventCount, messageCount}
+use Rattle.spec_kernel.specs.Sizes.{threadCount, semaphoreCount, eventCount, messageCount, flagCount}
+use Rattle.base_bits.specs.Words.{bitAt}
 use Rattle.base_queue.specs.Queues.{pack}
 use Rattle.spec_kernel.specs.declared.records.Condition.the-variants.{Ready}
 use Rattle.spec_kernel.specs.declared.records.Wake.{Wake}
@@ -40,6 +42,13 @@ event k i = getD (k .events) i noEvent
 abbrev pub message : Kernel → ℕ → Message
 message k m = getD (k .messages) m noMessage
 
+-- Flag i is live: that is all of its record, a bit of one word. No id too large is live [02 §1].
+abbrev pub flagIn : ℕ → ℕ → Bool
+flagIn flags i = ltb i flagCount && bitAt flags i
+
+abbrev pub flag : Kernel → ℕ → Bool
+flag k i = flagIn (k .flags) i
+
 -- An event of the fresh state: mode any, no bit masked, no value set [01, modelled 6].
 abbrev pub freshEvent : Event
 freshEvent = record { any = true; mask = 0; values = 0 }
@@ -60,4 +69,5 @@ fresh =
       unscheduled = 0;
       critical = 0;
       runner = 255;
+      flags = 0;
     }

@@ -1,4 +1,4 @@
--- How many there are of each thing that document 01 numbers: the one place in the definitions that has these numbers [01, modelled 4].
+-- How many there are of each thing that documents 01 and 02 number: the one place in the definitions that has these numbers [01, modelled 4].
 use Prim.Native.Nat.{ℕ}
 
 -- ids are below these
@@ -13,6 +13,9 @@ eventCount = 8
 
 abbrev pub messageCount : ℕ
 messageCount = 64
+
+abbrev pub flagCount : ℕ
+flagCount = 16
 
 -- priorities and channels are counted from 1
 abbrev pub priorityCount : ℕ

@@ -2,13 +2,14 @@
 use crate::sizes;
 use base_queue::Queue;
 
-// What a thread does: it is ready, asleep, or waits for a semaphore, an event, or a message on the masked channels.
+// What a thread does: it is ready, asleep, or waits for a semaphore, an event, a message on the masked channels, or a flag.
 pub enum Condition {
     Ready,
     Asleep,
     ForSemaphore(u8),
     ForEvent(u8),
     ForMessage(u16),
+    ForFlag(u8),
 }
 
 // What a thread waited for when its time was up.
@@ -16,6 +17,7 @@ pub enum Object {
     Semaphore,
     Event,
     Message,
+    Flag,
 }
 
 // Why a thread was woken last.
@@ -62,6 +64,7 @@ pub struct Message {
     pub address: u32,
 }
 
+// `flags` has a bit for each flag that is live: that is all of a flag's record.
 pub struct Kernel {
     pub threads: [Thread; sizes::THREADS],
     pub semaphores: [Semaphore; sizes::SEMAPHORES],
@@ -75,4 +78,5 @@ pub struct Kernel {
     pub unscheduled: u8,
     pub critical: u8,
     pub runner: u8,
+    pub flags: u16,
 }

@@ -16,6 +16,7 @@ use Rattle.spec_laws.specs.OfRegions.{Levels}
 use Rattle.spec_laws.specs.OfSemaphores.{MadeSemaphore, CreatedSemaphore, PendedSemaphore, PostedSemaphore}
 use Rattle.spec_laws.specs.OfEvents.{LoadedEvent, PendedEvent, BitIs}
 use Rattle.spec_laws.specs.OfMessages.{MadeMessage, CreatedMessage, PostedMessage, PendedMessage}
+use Rattle.spec_laws.specs.OfFlags.{MadeFlag, CreatedFlag, PendedFlag, PostedFlag}
 use Rattle.spec_laws.specs.OfTime.{Ticked}
 
 -- by the state before, the call, the value and the state after
@@ -63,6 +64,10 @@ lawsOfKinds =
     ∷ silent (λ k c. PostedSemaphore (c .a) k)  -- 28 interrupt: post semaphore a
     ∷ silent (λ k c. BitIs (c .a) true k)  -- 29 interrupt: set bit a
     ∷ silent (λ k c. BitIs (c .a) false k)  -- 30 interrupt: clear bit a
+    ∷ (λ k c value. CreatedFlag value k)  -- 31 create flag
+    ∷ silent (λ k c. MadeFlag (c .a) false k)  -- 32 destroy flag a
+    ∷ silent (λ k c. PendedFlag (c .a) (c .c) k)  -- 33 pend flag a, timeout c
+    ∷ silent (λ k c. PostedFlag (c .a) k)  -- 34 post flag a
     ∷ []
 
 -- the law of a call's kind

@@ -1,5 +1,6 @@
 pub mod Laws
 pub mod OfEvents
+pub mod OfFlags
 pub mod OfMessages
 pub mod OfRegions
 pub mod OfSemaphores

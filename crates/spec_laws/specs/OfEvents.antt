@@ -9,10 +9,10 @@ use Rattle.base_queue.specs.Lists.{keep, count}
 use Rattle.spec_kernel.specs.declared.records.Condition.the-variants.{ForEvent}
 use Rattle.spec_kernel.specs.declared.records.Wake.{Wake}
 use Rattle.spec_kernel.specs.declared.records.Kernel.{Kernel}
-use Rattle.spec_kernel.specs.Sizes.{semaphoreCount, eventCount}
+use Rattle.spec_kernel.specs.Sizes.{semaphoreCount, eventCount, flagCount}
 use Rattle.spec_kernel.specs.Records.{thread, event}
 use Rattle.spec_kernel.specs.Conditions.{ofEvents}
-use Rattle.spec_kernel.specs.Places.{home, readyList, semaphoreQueue, eventQueue, timeQueue}
+use Rattle.spec_kernel.specs.Places.{home, readyList, semaphoreQueue, eventQueue, flagQueue, timeQueue}
 use Rattle.spec_kernel.specs.Truth.{isTrue}
 use Rattle.spec_laws.specs.Words.{readied, SameMessages, SameScheduler, withoutAll}
 use Rattle.spec_laws.specs.OfThreads.{Blocked}
@@ -34,9 +34,10 @@ waiters k k′ = waitersFrom (isMet k′) (eventQueue k) 0 eventCount
 pub record WorkedOut (k k′ : Kernel) : Type 0 where
   -- nobody waits for a TRUE event
   pub nobody : (i : ℕ) → i < eventCount → isMet k′ i ≡ true → eventQueue k′ i ≡ []
-  -- the queues of the other events, and of semaphores, are as they were
+  -- the queues of the other events, of semaphores and of flags are as they were
   pub events : (i : ℕ) → i < eventCount → isMet k′ i ≡ false → eventQueue k′ i ≡ eventQueue k i
   pub semaphores : (i : ℕ) → i < semaphoreCount → semaphoreQueue k′ i ≡ semaphoreQueue k i
+  pub flags : (i : ℕ) → i < flagCount → flagQueue k′ i ≡ flagQueue k i
   -- each ready list gets the waiters of its priority, in id order of their events, and of each event in queue order
   pub lists : (p : ℕ) → p < 256 → readyList k′ p ≡ readyList k p ++ keep (λ t. eqb (thread k t .priority) p) (waiters k k′)
   -- they leave the time queue, where the others keep their order
@@ -48,6 +49,7 @@ pub record WorkedOut (k k′ : Kernel) : Type 0 where
   pub others : (t : ℕ) → ((i : ℕ) → i < eventCount → isMet k′ i ≡ true → count t (eventQueue k i) ≡ 0) → thread k′ t ≡ thread k t
   -- nothing else but events and bits does
   pub counts : k′ .semaphores ≡ k .semaphores
+  pub live : k′ .flags ≡ k .flags
   pub messages : SameMessages k k′
   pub scheduler : SameScheduler k k′
 

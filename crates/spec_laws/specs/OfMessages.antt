@@ -46,6 +46,7 @@ pub record HandedOver (m t : ℕ) (k k′ : Kernel) : Type 0 where
   pub others : OtherMessages m k k′
   pub semaphores : k′ .semaphores ≡ k .semaphores
   pub events : SameEvents k k′
+  pub flags : k′ .flags ≡ k .flags
   pub scheduler : SameScheduler k k′
 
 pub record PostedMessage (m t c : ℕ) (k k′ : Kernel) : Type 0 where

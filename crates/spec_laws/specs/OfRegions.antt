@@ -11,6 +11,7 @@ pub record Levels (unscheduled critical : ℕ) (k k′ : Kernel) : Type 0 where
   pub threads : SameThreads k k′
   pub semaphores : k′ .semaphores ≡ k .semaphores
   pub events : SameEvents k k′
+  pub flags : k′ .flags ≡ k .flags
   pub messages : SameMessages k k′
   pub uptime : k′ .uptime ≡ k .uptime
   pub runner : k′ .runner ≡ k .runner

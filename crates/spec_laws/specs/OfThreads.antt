@@ -6,12 +6,12 @@ use mathlib.Core.List.{[], _∷_, _++_}
 use lib.Dec.{ltb}
 use Rattle.base_queue.specs.Lists.{without, behind}
 use Rattle.spec_kernel.specs.declared.records.Condition.{Condition}
-use Rattle.spec_kernel.specs.declared.records.Condition.the-variants.{ForSemaphore, ForEvent}
+use Rattle.spec_kernel.specs.declared.records.Condition.the-variants.{ForSemaphore, ForEvent, ForFlag}
 use Rattle.spec_kernel.specs.declared.records.Wake.{Wake}
 use Rattle.spec_kernel.specs.declared.records.Kernel.{Kernel}
 use Rattle.spec_kernel.specs.Records.{thread, message, noThread, noMessage}
 use Rattle.spec_kernel.specs.Conditions.{isReady}
-use Rattle.spec_kernel.specs.Places.{nowhere, homeFor, readyHome, atHome, readyList, semaphoreQueue, eventQueue, timeQueue, channel}
+use Rattle.spec_kernel.specs.Places.{nowhere, homeFor, readyHome, atHome, readyList, semaphoreQueue, eventQueue, flagQueue, timeQueue, channel}
 use Rattle.spec_laws.specs.Words.{readied, stopped, prioritized, newborn, OnlyThreads, OtherThreads, SameEvents, SameScheduler}
 
 -- ---- waking
@@ -86,6 +86,7 @@ pub record Destroyed (a : ℕ) (k k′ : Kernel) : Type 0 where
   -- nothing else changes
   pub semaphores : k′ .semaphores ≡ k .semaphores
   pub events : SameEvents k k′
+  pub flags : k′ .flags ≡ k .flags
   pub scheduler : SameScheduler k k′
 
 -- ---- kinds 4 and 5
@@ -100,6 +101,8 @@ pub record Reprioritized (new a : ℕ) (k k′ : Kernel) : Type 0 where
       → semaphoreQueue k′ i ≡ behind (λ u. ltb new (thread k u .priority)) a (without a (semaphoreQueue k i))
   pub event : (i : ℕ) → i < 256 → thread k a .condition ≡ ForEvent i
       → eventQueue k′ i ≡ behind (λ u. ltb new (thread k u .priority)) a (without a (eventQueue k i))
+  pub flag : (i : ℕ) → i < 256 → thread k a .condition ≡ ForFlag i
+      → flagQueue k′ i ≡ behind (λ u. ltb new (thread k u .priority)) a (without a (flagQueue k i))
   -- and nobody else moves; who sleeps or waits for a message has no home to move in
   pub elsewhere : isReady (thread k a) ≡ false → (h : ℕ) → (h ≡ homeFor (thread k a .condition) new → ⊥) → atHome k′ h ≡ atHome k h
   pub time : timeQueue k′ ≡ timeQueue k

@@ -6,7 +6,7 @@ use mathlib.Core.List.{_++_}
 use lib.Dec.{eqb}
 use Rattle.base_queue.specs.Lists.{keep}
 use Rattle.spec_kernel.specs.declared.records.Condition.{Condition}
-use Rattle.spec_kernel.specs.declared.records.Condition.the-variants.{Ready, Asleep, ForSemaphore, ForEvent, ForMessage}
+use Rattle.spec_kernel.specs.declared.records.Condition.the-variants.{Ready, Asleep, ForSemaphore, ForEvent, ForMessage, ForFlag}
 use Rattle.spec_kernel.specs.declared.records.Object.{Object}
 use Rattle.spec_kernel.specs.declared.records.Wake.{Wake}
 use Rattle.spec_kernel.specs.declared.records.Kernel.{Kernel}
@@ -27,6 +27,7 @@ timeoutOf Asleep = Wake.Met
 timeoutOf (ForSemaphore i) = Wake.TimedOut Object.Semaphore
 timeoutOf (ForEvent i) = Wake.TimedOut Object.Event
 timeoutOf (ForMessage mask) = Wake.TimedOut Object.Message
+timeoutOf (ForFlag i) = Wake.TimedOut Object.Flag
 
 -- A tick of k has passed for the threads of k′ [01, calls: Tick 2].
 pub record TimePassed (k k′ : Kernel) : Type 0 where
@@ -66,6 +67,7 @@ pub record Ticked (k k′ : Kernel) : Type 0 where
   pub ends : k′ ≡ turn semaphoreCount
   -- nothing else changes
   pub events : SameEvents k k′
+  pub flags : k′ .flags ≡ k .flags
   pub messages : SameMessages k k′
   pub unscheduled : k′ .unscheduled ≡ k .unscheduled
   pub critical : k′ .critical ≡ k .critical

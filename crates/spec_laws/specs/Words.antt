@@ -11,7 +11,7 @@ use Rattle.spec_kernel.specs.declared.records.Thread.{Thread}
 use Rattle.spec_kernel.specs.declared.records.Semaphore.{Semaphore}
 use Rattle.spec_kernel.specs.declared.records.Message.{Message}
 use Rattle.spec_kernel.specs.declared.records.Kernel.{Kernel}
-use Rattle.spec_kernel.specs.Records.{thread, semaphore, message}
+use Rattle.spec_kernel.specs.Records.{thread, semaphore, message, flag}
 
 -- ---- threads
 -- the record r, ready with no ticks left; the reason and the reply are new
@@ -114,6 +114,7 @@ pub record SameScheduler (k k′ : Kernel) : Type 0 where
 pub record OnlyThreads (k k′ : Kernel) : Type 0 where
   pub semaphores : k′ .semaphores ≡ k .semaphores
   pub events : SameEvents k k′
+  pub flags : k′ .flags ≡ k .flags
   pub messages : SameMessages k k′
   pub scheduler : SameScheduler k k′
 
@@ -122,12 +123,23 @@ pub record OnlyMessages (k k′ : Kernel) : Type 0 where
   pub threads : SameThreads k k′
   pub semaphores : k′ .semaphores ≡ k .semaphores
   pub events : SameEvents k k′
+  pub flags : k′ .flags ≡ k .flags
   pub scheduler : SameScheduler k k′
 
 -- nothing but semaphore i
 pub record OnlySemaphore (i : ℕ) (k k′ : Kernel) : Type 0 where
   pub others : (j : ℕ) → (j ≡ i → ⊥) → semaphore k′ j ≡ semaphore k j
   pub threads : SameThreads k k′
+  pub events : SameEvents k k′
+  pub flags : k′ .flags ≡ k .flags
+  pub messages : SameMessages k k′
+  pub scheduler : SameScheduler k k′
+
+-- nothing but flag i
+pub record OnlyFlag (i : ℕ) (k k′ : Kernel) : Type 0 where
+  pub others : (j : ℕ) → (j ≡ i → ⊥) → flag k′ j ≡ flag k j
+  pub threads : SameThreads k k′
+  pub semaphores : k′ .semaphores ≡ k .semaphores
   pub events : SameEvents k k′
   pub messages : SameMessages k k′
   pub scheduler : SameScheduler k k′

@@ -13,7 +13,7 @@ use Rattle.base_queue.specs.Queues.{items}
 use Rattle.base_queue.proofs.Counts.{same, count-head, count-keep, kept, keep-keep, keep-same}
 use Rattle.base_queue.proofs.Orders.{ordered-low, ordered-keep}
 use Rattle.spec_kernel.specs.declared.records.Condition.{Condition}
-use Rattle.spec_kernel.specs.declared.records.Condition.the-variants.{Ready, Asleep, ForSemaphore, ForEvent, ForMessage}
+use Rattle.spec_kernel.specs.declared.records.Condition.the-variants.{Ready, Asleep, ForSemaphore, ForEvent, ForMessage, ForFlag}
 use Rattle.spec_kernel.specs.declared.records.Wake.{Wake}
 use Rattle.spec_kernel.specs.declared.records.Message.{Message}
 use Rattle.spec_kernel.specs.declared.records.Kernel.{Kernel}
@@ -135,6 +135,7 @@ file-only m r k = record {
   threads = record { records = refl; places = refl; time = refl };
   semaphores = refl;
   events = record { records = refl; bits = refl };
+  flags = refl;
   scheduler = record { uptime = refl; unscheduled = refl; critical = refl; runner = refl };
 }
 
@@ -186,6 +187,7 @@ awaits-stopped Asleep c e = refl
 awaits-stopped (ForSemaphore i) c e = refl
 awaits-stopped (ForEvent i) c e = refl
 awaits-stopped (ForMessage mask) c e = refl
+awaits-stopped (ForFlag i) c e = refl
 
 -- the caller holds message a, and names thread b and channel c
 module _ (k : Kernel) (F : Filed (postsOf k)) (call : Call) (live : message k (call .a) .live ≡ true)
@@ -229,6 +231,7 @@ module _ (k : Kernel) (F : Filed (postsOf k)) (call : Call) (live : message k (c
           others = λ n ne. repost-other (postsOf k) m r ne;
           semaphores = refl;
           events = record { records = refl; bits = refl };
+          flags = refl;
           scheduler = record { uptime = refl; unscheduled = refl; critical = refl; runner = refl };
         })
 

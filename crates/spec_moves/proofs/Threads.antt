@@ -14,7 +14,7 @@ use Rattle.base_queue.specs.Lists.{keep, isNot, without, behind}
 use Rattle.base_queue.specs.Queues.{items}
 use Rattle.base_queue.proofs.Counts.{same}
 use Rattle.spec_kernel.specs.declared.records.Condition.{Condition}
-use Rattle.spec_kernel.specs.declared.records.Condition.the-variants.{Ready, Asleep, ForSemaphore, ForEvent, ForMessage}
+use Rattle.spec_kernel.specs.declared.records.Condition.the-variants.{Ready, Asleep, ForSemaphore, ForEvent, ForMessage, ForFlag}
 use Rattle.spec_kernel.specs.declared.records.Thread.{Thread}
 use Rattle.spec_moves.specs.declared.parts.Threads.{Threads}
 use Rattle.spec_kernel.specs.Sizes.{threadCount}
@@ -48,6 +48,7 @@ ready-home r e = let (l, c) = and-eq-true-iff (r .live) (readyFor (r .condition)
     go (ForSemaphore i) z = absurd (false≢true z)
     go (ForEvent i) z = absurd (false≢true z)
     go (ForMessage mask) z = absurd (false≢true z)
+    go (ForFlag i) z = absurd (false≢true z)
 
 -- only a priority's list is a home below 256
 low-home : (r : Thread) → homeOf r < 256 → homeOf r ≡ r .priority
@@ -61,6 +62,7 @@ low-home r e = go (r .live) (r .condition) e
     go true (ForSemaphore i) h = absurd (omega arith)
     go true (ForEvent i) h = absurd (omega arith)
     go true (ForMessage mask) h = absurd (omega arith)
+    go true (ForFlag i) h = absurd (omega arith)
     go false c h = absurd (omega arith)
 
 -- so all of a priority's list have one rank

@@ -9,7 +9,7 @@ use lib.Seq.{getD-set-same, getD-set-other, set-out}
 use borrow.Author.Tests.{eqb-true, eqb-false, ltb-true, ltb-false}
 use borrow.Table.Steps.{cases}
 use Rattle.spec_kernel.specs.declared.records.Condition.{Condition}
-use Rattle.spec_kernel.specs.declared.records.Condition.the-variants.{Ready, Asleep, ForSemaphore, ForEvent, ForMessage}
+use Rattle.spec_kernel.specs.declared.records.Condition.the-variants.{Ready, Asleep, ForSemaphore, ForEvent, ForMessage, ForFlag}
 use Rattle.spec_kernel.specs.declared.records.Thread.{Thread}
 use Rattle.spec_kernel.specs.declared.records.Semaphore.{Semaphore}
 use Rattle.spec_kernel.specs.declared.records.Event.{Event}
@@ -66,12 +66,13 @@ module _ {k : Kernel} (B : Before k) (L : Limits k) where
   what-small : (t : ℕ) → conditionData (thread k t .condition) < 65536
   what-small t = go (thread k t .condition) (condition-of (B .core) t)
     where
-      go : (c : Condition) → Fits (k .semaphores) (untrue k) (thread k t .ticks) c → conditionData c < 65536
+      go : (c : Condition) → Fits (k .semaphores) (untrue k) (k .flags) (thread k t .ticks) c → conditionData c < 65536
       go Ready h = omega arith
       go Asleep h = omega arith
       go (ForSemaphore i) h = omega (arith, live-semaphore (B .core) i (h .0))
       go (ForEvent i) h = omega arith
       go (ForMessage mask) h = omega arith
+      go (ForFlag i) h = omega arith
 
   runner-small : k .runner < 256
   runner-small =

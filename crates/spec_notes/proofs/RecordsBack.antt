@@ -11,7 +11,7 @@ use borrow.Author.Tests.{eqb-true}
 use borrow.Table.Steps.{cases}
 use Rattle.base_queue.specs.Tables.{one}
 use Rattle.spec_kernel.specs.declared.records.Condition.{Condition}
-use Rattle.spec_kernel.specs.declared.records.Condition.the-variants.{Ready, Asleep, ForSemaphore, ForEvent, ForMessage}
+use Rattle.spec_kernel.specs.declared.records.Condition.the-variants.{Ready, Asleep, ForSemaphore, ForEvent, ForMessage, ForFlag}
 use Rattle.spec_kernel.specs.declared.records.Object.{Object}
 use Rattle.spec_kernel.specs.declared.records.Wake.{Wake}
 use Rattle.spec_kernel.specs.declared.records.Thread.{Thread}
@@ -32,6 +32,7 @@ code-live Asleep = refl
 code-live (ForSemaphore i) = refl
 code-live (ForEvent i) = refl
 code-live (ForMessage mask) = refl
+code-live (ForFlag i) = refl
 
 -- the object's id is a byte
 abbrev pub ByteId : Condition → Type 0
@@ -40,6 +41,7 @@ ByteId Asleep = Unit {0}
 ByteId (ForSemaphore i) = i < 256
 ByteId (ForEvent i) = i < 256
 ByteId (ForMessage mask) = Unit {0}
+ByteId (ForFlag i) = i < 256
 
 condition-back : (c : Condition) → ByteId c → conditionFrom (conditionCode c) (conditionData c) ≡ c
 unfolding conditionFrom
@@ -48,6 +50,7 @@ condition-back Asleep h = refl
 condition-back (ForSemaphore i) h = rw (mod-eq-of-lt h)
 condition-back (ForEvent i) h = rw (mod-eq-of-lt h)
 condition-back (ForMessage mask) h = refl
+condition-back (ForFlag i) h = rw (mod-eq-of-lt h)
 
 -- the same for an id of any size
 abbrev anyCondition : ℕ → ℕ → Condition
@@ -61,6 +64,7 @@ any-back Asleep = refl
 any-back (ForSemaphore i) = refl
 any-back (ForEvent i) = refl
 any-back (ForMessage mask) = refl
+any-back (ForFlag i) = refl
 
 wake-back : (w : Wake) → wakeFrom (wakeCode w) ≡ w
 unfolding wakeFrom
@@ -137,11 +141,13 @@ code-back true Asleep = (refl, refl)
 code-back true (ForSemaphore i) = (refl, refl)
 code-back true (ForEvent i) = (refl, refl)
 code-back true (ForMessage mask) = (refl, refl)
+code-back true (ForFlag i) = (refl, refl)
 code-back false Ready = (refl, refl)
 code-back false Asleep = (refl, refl)
 code-back false (ForSemaphore i) = (refl, refl)
 code-back false (ForEvent i) = (refl, refl)
 code-back false (ForMessage mask) = (refl, refl)
+code-back false (ForFlag i) = (refl, refl)
 
 -- one full code has one code
 shown : (live : Bool) (c : Condition) → cond live (conditionCode c) 0 ≡ cond (ltb (codeFor live c) 6) (codeFor live c) 0

@@ -12,7 +12,7 @@ use Rattle.base_queue.specs.Lists.{keep}
 use Rattle.base_queue.specs.Queues.{items}
 use Rattle.base_queue.proofs.Counts.{same}
 use Rattle.spec_kernel.specs.declared.records.Condition.{Condition}
-use Rattle.spec_kernel.specs.declared.records.Condition.the-variants.{Ready, Asleep, ForSemaphore, ForEvent, ForMessage}
+use Rattle.spec_kernel.specs.declared.records.Condition.the-variants.{Ready, Asleep, ForSemaphore, ForEvent, ForMessage, ForFlag}
 use Rattle.spec_kernel.specs.declared.records.Thread.{Thread}
 use Rattle.spec_kernel.specs.declared.records.Message.{Message}
 use Rattle.spec_kernel.specs.declared.records.Kernel.{Kernel}
@@ -79,6 +79,7 @@ condition-code Asleep = (omega arith, λ e. absurd (false≢true e), λ _. omega
 condition-code (ForSemaphore i) = (omega arith, λ e. absurd (false≢true e), λ _. omega arith)
 condition-code (ForEvent i) = (omega arith, λ e. absurd (false≢true e), λ _. omega arith)
 condition-code (ForMessage mask) = (omega arith, λ e. absurd (false≢true e), λ _. omega arith)
+condition-code (ForFlag i) = (omega arith, λ e. absurd (false≢true e), λ _. omega arith)
 
 -- not asleep, and waiting for nothing
 abbrev pub up : Thread → Bool

@@ -14,7 +14,7 @@ use Rattle.base_queue.specs.Queues.{items}
 use Rattle.base_queue.proofs.Counts.{count-head, kept, keep-keep, keep-same}
 use Rattle.base_queue.proofs.Queues.{items-pack}
 use Rattle.spec_kernel.specs.declared.records.Condition.{Condition}
-use Rattle.spec_kernel.specs.declared.records.Condition.the-variants.{Ready, Asleep, ForSemaphore, ForEvent, ForMessage}
+use Rattle.spec_kernel.specs.declared.records.Condition.the-variants.{Ready, Asleep, ForSemaphore, ForEvent, ForMessage, ForFlag}
 use Rattle.spec_kernel.specs.declared.records.Wake.{Wake}
 use Rattle.spec_kernel.specs.declared.records.Thread.{Thread}
 use Rattle.spec_kernel.specs.declared.records.Message.{Message}
@@ -86,6 +86,7 @@ awaits-down Asleep n h = refl
 awaits-down (ForSemaphore i) n h = refl
 awaits-down (ForEvent i) n h = refl
 awaits-down (ForMessage mask) n h = refl
+awaits-down (ForFlag i) n h = refl
 
 -- the first of a list is a member
 pub first-member : (l : List ℕ) → (firstOf l ≡ 255 → ⊥) → 0 < count (firstOf l) l

@@ -10,7 +10,7 @@ use borrow.Table.Steps.{cases}
 use Rattle.base_queue.specs.Queues.{items}
 use Rattle.base_queue.proofs.Counts.{kept}
 use Rattle.spec_kernel.specs.declared.records.Condition.{Condition}
-use Rattle.spec_kernel.specs.declared.records.Condition.the-variants.{Ready, Asleep, ForSemaphore, ForEvent, ForMessage}
+use Rattle.spec_kernel.specs.declared.records.Condition.the-variants.{Ready, Asleep, ForSemaphore, ForEvent, ForMessage, ForFlag}
 use Rattle.spec_kernel.specs.declared.records.Kernel.{Kernel}
 use Rattle.spec_moves.specs.declared.parts.Threads.{Threads}
 use Rattle.spec_kernel.specs.Sizes.{semaphoreCount}
@@ -45,12 +45,13 @@ module _ {w : ℕ → Bool} {k : Kernel} (C : Core w k) where
   due-down : (t : ℕ) → eqb (thread k t .ticks) 1 ≡ true → up (thread k t) ≡ false
   due-down t e = go (thread k t .condition) (condition-of C t)
     where
-      go : (c : Condition) → Fits (k .semaphores) w (thread k t .ticks) c → readyFor c ≡ false
+      go : (c : Condition) → Fits (k .semaphores) w (k .flags) (thread k t .ticks) c → readyFor c ≡ false
       go Ready h = absurd (omega (arith, eqb-true (thread k t .ticks) 1 e))
       go Asleep h = refl
       go (ForSemaphore i) h = refl
       go (ForEvent i) h = refl
       go (ForMessage mask) h = refl
+      go (ForFlag i) h = refl
 
   passes-wake : Wakes (threadsOf k) (timePasses (threadsOf k))
   unfolding timePasses timeUp due

@@ -12,7 +12,7 @@ use Rattle.base_queue.specs.Lists.{count}
 use Rattle.base_queue.specs.Queues.{items}
 use Rattle.base_queue.proofs.Counts.{same, count-head, count-rest, kept}
 use Rattle.spec_kernel.specs.declared.records.Condition.{Condition}
-use Rattle.spec_kernel.specs.declared.records.Condition.the-variants.{Ready, Asleep, ForSemaphore, ForEvent, ForMessage}
+use Rattle.spec_kernel.specs.declared.records.Condition.the-variants.{Ready, Asleep, ForSemaphore, ForEvent, ForMessage, ForFlag}
 use Rattle.spec_kernel.specs.declared.records.Wake.{Wake}
 use Rattle.spec_kernel.specs.declared.records.Thread.{Thread}
 use Rattle.spec_kernel.specs.declared.records.Event.{Event}
@@ -108,6 +108,7 @@ home-down r s a b = go (r .live) (r .condition) a b
     go true (ForSemaphore i) a b = refl
     go true (ForEvent i) a b = refl
     go true (ForMessage mask) a b = refl
+    go true (ForFlag i) a b = refl
 
 -- only an id has a record that isn't up
 down-low : {p : Threads} {t : ℕ} → Standing p → up (threadIn p t) ≡ false → t < threadCount

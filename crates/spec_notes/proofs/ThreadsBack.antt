@@ -14,7 +14,7 @@ use Rattle.base_queue.proofs.Queues.{length-items}
 use Rattle.base_rows.specs.Entries.{readEntries}
 use Rattle.base_rows.proofs.EntriesRead.{id-back, code-back}
 use Rattle.spec_kernel.specs.declared.records.Condition.{Condition}
-use Rattle.spec_kernel.specs.declared.records.Condition.the-variants.{Ready, Asleep, ForSemaphore, ForEvent, ForMessage}
+use Rattle.spec_kernel.specs.declared.records.Condition.the-variants.{Ready, Asleep, ForSemaphore, ForEvent, ForMessage, ForFlag}
 use Rattle.spec_kernel.specs.declared.records.Object.{Object}
 use Rattle.spec_kernel.specs.declared.records.Wake.{Wake}
 use Rattle.spec_kernel.specs.declared.records.Thread.{Thread}
@@ -62,6 +62,7 @@ data-fits r dead b h =
     go (ForSemaphore i) b h = b
     go (ForEvent i) b h = b
     go (ForMessage mask) b h = h
+    go (ForFlag i) b h = b
 
 -- one that isn't touched is the same
 neither : (a b : Bool) → (not a || b) ≡ false → a ≡ true
@@ -92,12 +93,13 @@ module _ (k : Kernel) (c : Call) (k′ : Kernel) where
         let C = before k Z R .core in
         go C (thread k t .condition) (condition-of C t)
       where
-        go : Core (untrue k) k → (x : Condition) → Fits (k .semaphores) (untrue k) (thread k t .ticks) x → ByteId x
+        go : Core (untrue k) k → (x : Condition) → Fits (k .semaphores) (untrue k) (k .flags) (thread k t .ticks) x → ByteId x
         go C Ready h = tt
         go C Asleep h = tt
         go C (ForSemaphore i) h = omega (arith, live-semaphore C i (h .0))
         go C (ForEvent i) h = omega arith
         go C (ForMessage mask) h = tt
+        go C (ForFlag i) h = omega arith
 
     fits : (t : ℕ)
         → Fit (threadWidths (threadCode (thread k t)))

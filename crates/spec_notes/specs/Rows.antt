@@ -6,7 +6,7 @@ use lib.Dec.{eqb}
 use lib.ListN.{getD}
 use Rattle.base_queue.specs.Tables.{one}
 use Rattle.spec_kernel.specs.declared.records.Condition.{Condition}
-use Rattle.spec_kernel.specs.declared.records.Condition.the-variants.{Ready, Asleep, ForSemaphore, ForEvent, ForMessage}
+use Rattle.spec_kernel.specs.declared.records.Condition.the-variants.{Ready, Asleep, ForSemaphore, ForEvent, ForMessage, ForFlag}
 use Rattle.spec_kernel.specs.declared.records.Object.{Object}
 use Rattle.spec_kernel.specs.declared.records.Wake.{Wake}
 use Rattle.spec_kernel.specs.declared.records.Thread.{Thread}
@@ -22,6 +22,7 @@ conditionCode Asleep = 2
 conditionCode (ForSemaphore i) = 3
 conditionCode (ForEvent i) = 4
 conditionCode (ForMessage mask) = 5
+conditionCode (ForFlag i) = 4
 
 abbrev pub threadCode : Thread → ℕ
 threadCode r = cond (r .live) (conditionCode (r .condition)) 0
@@ -40,6 +41,7 @@ conditionData Asleep = 0
 conditionData (ForSemaphore i) = i
 conditionData (ForEvent i) = i
 conditionData (ForMessage mask) = mask
+conditionData (ForFlag i) = i
 
 -- 0 none, 1 met, 2 timed out on a semaphore, 3 on an event, 4 on a message
 abbrev pub objectCode : Object → ℕ

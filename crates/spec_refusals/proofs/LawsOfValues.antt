@@ -1,7 +1,7 @@
 -- The value that comes back, by the kind of the call.
 use mathlib.Core.Path.{_≡_}
 use Rattle.spec_kernel.specs.declared.records.Kernel.{Kernel}
-use Rattle.spec_kernel.specs.Free.{freeThread, freeSemaphore, freeMessage}
+use Rattle.spec_kernel.specs.Free.{freeThread, freeSemaphore, freeMessage, freeFlag}
 use Rattle.spec_kernel.specs.Channels.{nextMessage}
 use Rattle.spec_calls.specs.declared.call.Call.{Call}
 use Rattle.spec_calls.specs.Kinds.{kindOf}
@@ -24,3 +24,7 @@ module _ (k : Kernel) (c : Call) where
   pub message-received : c .kind ≡ 27 → valueOf k c ≡ nextMessage k (c .b)
   unfolding valueOf kindOf
   message-received e = rw e
+
+  pub flag-given : c .kind ≡ 31 → valueOf k c ≡ freeFlag k
+  unfolding valueOf kindOf
+  flag-given e = rw e

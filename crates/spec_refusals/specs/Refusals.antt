@@ -58,7 +58,8 @@ badNumber c =
     ∷ (is c 16 && (eqb (c .c) 0 || eqb (c .d) 0))
     ∷ [])
 
--- 4: a thread, semaphore or message named that isn't live (no id too large is), an event above 7, a bit above 31 [01, table: number 4].
+-- 4: a thread, semaphore, message or flag named that isn't live (no id too large is), an event above 7, a bit above 31 [01, table:
+-- number 4; 02 §1].
 unfoldable pub badId : Named → Call → Bool
 badId n c =
     someOf
@@ -67,6 +68,7 @@ badId n c =
     ∷ (eqb (kindOf c .event) theA && leb eventCount (c .a))
     ∷ (eqb (kindOf c .event) theBit && leb bitCount (c .a))
     ∷ (names (kindOf c .message) && not (n .message .live))
+    ∷ (names (kindOf c .flag) && not (n .flag))
     ∷ [])
 
 -- 9: the message to destroy or post stands in a channel [01, table: number 9].
@@ -77,9 +79,9 @@ isInChannel n c = names (kindOf c .message) && isQueued (n .message)
 unfoldable pub notOwner : ℕ → Named → Call → Bool
 notOwner runner n c = names (kindOf c .message) && not (eqb (n .message .owner) runner)
 
--- 10: the semaphore to destroy has waiters, and so a first one; 255 is no thread (`has-waiters`) [01, table: number 10].
+-- 10: the semaphore or flag to destroy has waiters, and so a first one; 255 is no thread (`has-waiters`) [01, table: number 10; 02 §1].
 unfoldable pub hasWaiters : Named → Call → Bool
-hasWaiters n c = is c 15 && not (eqb (n .waiter) 255)
+hasWaiters n c = isOneOf c (15 ∷ 32 ∷ []) && not (eqb (n .waiter) 255)
 
 -- 12: the semaphore whose period is to be removed has none [01, table: number 12].
 unfoldable pub notPeriodic : Named → Call → Bool
@@ -101,15 +103,17 @@ stopsCaller runner n c =
     ∷ (is c 3 && eqb (c .a) runner)
     ∷ [])
 
--- 6: such a call inside a region, unscheduled or critical [01, table: number 6].
+-- 6: such a call inside a region, unscheduled or critical [01, table: number 6]. A flag's pend has this number, and for another reason: it
+-- comes from inside a critical region, "critical level exactly 1 and unscheduled level 0, else 6" [02 §1].
 unfoldable pub blocksInRegion : ℕ → ℕ → ℕ → Named → Call → Bool
-blocksInRegion unscheduled critical runner n c = inRegion unscheduled critical && stopsCaller runner n c
+blocksInRegion unscheduled critical runner n c =
+    cond (is c 33) (not (eqb unscheduled 0 && eqb critical 1)) (inRegion unscheduled critical && stopsCaller runner n c)
 
 -- 7: every id of what is to be created is taken, or the level to push is 255 already [01, table: number 7].
 unfoldable pub noneFree : ℕ → ℕ → Named → Call → Bool
 noneFree unscheduled critical n c =
     someOf
-    ((isOneOf c (2 ∷ 14 ∷ 24 ∷ []) && eqb (n .found) 255)
+    ((isOneOf c (2 ∷ 14 ∷ 24 ∷ 31 ∷ []) && eqb (n .found) 255)
     ∷ (is c 8 && eqb unscheduled 255)
     ∷ (is c 11 && eqb critical 255)
     ∷ [])

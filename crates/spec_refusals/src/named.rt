@@ -2,8 +2,8 @@
 use spec_kernel::records::Message;
 use spec_kernel::records::Semaphore;
 
-// Of what a call names: the semaphore's and the message's record, whether the thread is live and whether the event is TRUE; the first
-// that waits for the semaphore; and the id that comes back. The bytes come last, so that it takes forty.
+// Of what a call names: the semaphore's and the message's record, whether the thread or the flag is live and whether the event is TRUE; the
+// first that waits for the semaphore or the flag; and the id that comes back. The bytes come last, so that there are no gaps.
 pub struct Named {
     pub semaphore: Semaphore,
     pub message: Message,
@@ -11,4 +11,5 @@ pub struct Named {
     pub truth: bool,
     pub waiter: u8,
     pub found: u8,
+    pub flag: bool,
 }

@@ -16,6 +16,7 @@ levels-only k unscheduled critical =
       threads = record { records = refl; places = refl; time = refl };
       semaphores = refl;
       events = record { records = refl; bits = refl };
+      flags = refl;
       messages = record { records = refl; posted = refl };
       uptime = refl;
       runner = refl;

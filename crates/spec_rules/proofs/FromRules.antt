@@ -6,17 +6,18 @@ use native.Mathlib.Omega.{arith}
 use lib.Dec.{ltb}
 use borrow.Author.Tests.{ltb-true}
 use borrow.Table.Steps.{cases}
+use Rattle.base_bits.specs.Words.{bitAt}
 use Rattle.base_queue.specs.Lists.{count}
 use Rattle.base_queue.specs.Queues.{items}
 use Rattle.base_queue.specs.Tables.{one}
 use Rattle.base_queue.proofs.Counts.{same, count-keep}
 use Rattle.base_queue.proofs.Orders.{pairs-ordered}
 use Rattle.spec_kernel.specs.declared.records.Condition.{Condition}
-use Rattle.spec_kernel.specs.declared.records.Condition.the-variants.{Ready, Asleep, ForSemaphore, ForEvent, ForMessage}
+use Rattle.spec_kernel.specs.declared.records.Condition.the-variants.{Ready, Asleep, ForSemaphore, ForEvent, ForMessage, ForFlag}
 use Rattle.spec_kernel.specs.declared.records.Kernel.{Kernel}
 use Rattle.spec_kernel.specs.Records.{thread, semaphore, event, message}
-use Rattle.spec_kernel.specs.Sizes.{eventCount}
-use Rattle.spec_kernel.specs.Conditions.{ofSemaphores, ofEvents, awaits, masks}
+use Rattle.spec_kernel.specs.Sizes.{eventCount, flagCount}
+use Rattle.spec_kernel.specs.Conditions.{ofSemaphores, ofEvents, ofFlags, awaits, masks}
 use Rattle.spec_kernel.specs.Places.{homeOf, rankOf, semaphoreQueue, eventQueue, isQueued, channel}
 use Rattle.spec_kernel.specs.Truth.{isTrue}
 use Rattle.spec_kernel.specs.Runner.{chosen, firstReady}
@@ -40,6 +41,7 @@ awaited Asleep n h = absurd (false≢true h)
 awaited (ForSemaphore i) n h = absurd (false≢true h)
 awaited (ForEvent i) n h = absurd (false≢true h)
 awaited (ForMessage mask) n h = (mask, refl, h)
+awaited (ForFlag i) n h = absurd (false≢true h)
 
 module _ (k : Kernel) (Z : Sized k) (R : Rules k) where
   -- ---- the records
@@ -57,6 +59,9 @@ module _ (k : Kernel) (Z : Sized k) (R : Rules k) where
       let once : count t (eventQueue k i) ≡ 1 = R .waitingPlaces ofEvents t i b ∙ rw (l, e, same) in
       (b, cases (isTrue (k .bits) (event k i)) (λ h. absurd (omega (arith, rw (R .trueWithoutWaiters i b h) at once))) (λ h. h))
   condition-of t l (ForMessage mask) e = R .maskSizes t mask e
+  condition-of t l (ForFlag i) e =
+      let (b, f) = and-eq-true-iff (ltb i flagCount) (bitAt (k .flags) i) .0 (R .liveObjects ofFlags t i (rw (e, same))) in
+      (ltb-true i flagCount b, f)
 
   kept-thread : (t : ℕ) → KeptThread k (thread k t)
   unfolding PrioritySizes ReplySizes DeadThreads

@@ -12,12 +12,12 @@ use Rattle.base_queue.specs.Queues.{items}
 use Rattle.base_queue.specs.Tables.{one, Placed}
 use Rattle.base_queue.proofs.Counts.{same, count-keep}
 use Rattle.spec_kernel.specs.declared.records.Condition.{Condition}
-use Rattle.spec_kernel.specs.declared.records.Condition.the-variants.{Ready, Asleep, ForSemaphore, ForEvent, ForMessage}
+use Rattle.spec_kernel.specs.declared.records.Condition.the-variants.{Ready, Asleep, ForSemaphore, ForEvent, ForMessage, ForFlag}
 use Rattle.spec_kernel.specs.declared.records.Thread.{Thread}
 use Rattle.spec_kernel.specs.declared.records.Kernel.{Kernel}
 use Rattle.spec_kernel.specs.Records.{thread, semaphore}
 use Rattle.spec_kernel.specs.Sizes.{semaphoreCount, priorityCount}
-use Rattle.spec_kernel.specs.Conditions.{isReady, Class, ofSemaphores, ofEvents, idsIn, onObject, waitsFor}
+use Rattle.spec_kernel.specs.Conditions.{isReady, Class, ofSemaphores, ofEvents, ofFlags, idsIn, onObject, waitsFor}
 use Rattle.spec_kernel.specs.Places.{home, homeOf, hasHome, atHome, nowhere}
 use Rattle.spec_rules.specs.Rules.{ReadyPlaces, WaitingPlaces, NoOtherPlaces}
 use Rattle.spec_rules.proofs.OfRecords.{ConditionKept, KeptThread}
@@ -43,6 +43,7 @@ shift a i j = cases (eqb i j) (λ e. rw e (omega (arith, eq-eqb, eqb-true))) (λ
 queue-home : (class : Class) {i : ℕ} → i < idsIn class → (256 ≤ home class i) × (home class i < nowhere)
 queue-home ofSemaphores b = omega arith
 queue-home ofEvents b = omega arith
+queue-home ofFlags b = omega arith
 
 -- a ready list's home, and none, is no object's
 elsewhere : (h : ℕ) → (h < 256) ⊎ (h ≡ nowhere) → (class : Class) (i : ℕ) → i < idsIn class → eqb h (home class i) ≡ false
@@ -52,14 +53,20 @@ elsewhere h w class i b = let q = queue-home class b in ne-eqb h (home class i) 
 abbrev pub waitingFor : Class → ℕ → Condition
 waitingFor ofSemaphores i = ForSemaphore i
 waitingFor ofEvents i = ForEvent i
+waitingFor ofFlags i = ForFlag i
 
 -- two objects have one home only where they are the same
 own-home : (own class : Class) {j i : ℕ} → j < idsIn own → i < idsIn class
     → eqb (home own j) (home class i) ≡ onObject class i (waitingFor own j)
 own-home ofSemaphores ofSemaphores {j} {i} b c = shift 256 j i
 own-home ofEvents ofEvents {j} {i} b c = shift 512 j i
+own-home ofFlags ofFlags {j} {i} b c = shift 768 j i
 own-home ofSemaphores ofEvents b c = omega (arith, ne-eqb)
 own-home ofEvents ofSemaphores b c = omega (arith, ne-eqb)
+own-home ofSemaphores ofFlags b c = omega (arith, ne-eqb)
+own-home ofEvents ofFlags b c = omega (arith, ne-eqb)
+own-home ofFlags ofSemaphores b c = omega (arith, ne-eqb)
+own-home ofFlags ofEvents b c = omega (arith, ne-eqb)
 
 module _ (k : Kernel) (live-below : (i : ℕ) → semaphore k i .live ≡ true → i < semaphoreCount) where
   -- a kept thread's home is such a one
@@ -101,6 +108,12 @@ module _ (k : Kernel) (live-below : (i : ℕ) → semaphore k i .live ≡ true �
         ready = omega (arith, ne-eqb);
         waiting = λ class i. own-home ofEvents class b;
         lies = inQueue ofEvents j b refl;
+        low = omega arith;
+      }
+      go true (ForFlag j) P C = let b = C refl .0 in record {
+        ready = omega (arith, ne-eqb);
+        waiting = λ class i. own-home ofFlags class b;
+        lies = inQueue ofFlags j b refl;
         low = omega arith;
       }
       go true (ForMessage mask) P C = record { ready = omega (arith, ne-eqb); waiting = none; lies = inNone refl; low = omega arith }

@@ -11,15 +11,16 @@ use borrow.Author.Tests.{eqb-true, eqb-false, eq-eqb, ltb-true, ltb-false, lt-lt
 use borrow.Table.Steps.{cases}
 use Rattle.base_queue.specs.Lists.{everyFrom}
 use Rattle.base_queue.proofs.Lists.{every-at, every-intro}
+use Rattle.base_bits.specs.Words.{bitAt}
 use Rattle.spec_kernel.specs.declared.records.Condition.{Condition}
-use Rattle.spec_kernel.specs.declared.records.Condition.the-variants.{Ready, Asleep, ForSemaphore, ForEvent, ForMessage}
+use Rattle.spec_kernel.specs.declared.records.Condition.the-variants.{Ready, Asleep, ForSemaphore, ForEvent, ForMessage, ForFlag}
 use Rattle.spec_kernel.specs.declared.records.Wake.{Wake}
 use Rattle.spec_kernel.specs.declared.records.Thread.{Thread}
 use Rattle.spec_kernel.specs.declared.records.Semaphore.{Semaphore}
 use Rattle.spec_kernel.specs.declared.records.Message.{Message}
 use Rattle.spec_kernel.specs.declared.records.Kernel.{Kernel}
 use Rattle.spec_kernel.specs.Records.{thread, semaphore, event, message, noThread, noSemaphore, noMessage}
-use Rattle.spec_kernel.specs.Sizes.{threadCount, eventCount, messageCount, priorityCount, channelCount}
+use Rattle.spec_kernel.specs.Sizes.{threadCount, eventCount, messageCount, flagCount, priorityCount, channelCount}
 use Rattle.spec_kernel.specs.Conditions.{readyFor, awaits}
 use Rattle.spec_kernel.specs.Truth.{isTrue}
 use Rattle.spec_rules.specs.Tests.{noWake, conditionKept, isNoThread, liveThreadKept, threadKept, threadsKept}
@@ -59,6 +60,7 @@ ready-iff c = (means c, λ e. rw e)
     means (ForSemaphore i) h = cc
     means (ForEvent i) h = cc
     means (ForMessage mask) h = cc
+    means (ForFlag i) h = cc
 
 wake-iff : (w : Wake) → (noWake w ≡ true) ↔ (w ≡ Wake.None)
 wake-iff w = (means w, λ e. rw e)
@@ -110,22 +112,24 @@ ConditionKept k ticks Asleep = 0 < ticks
 ConditionKept k ticks (ForSemaphore i) = (semaphore k i .live ≡ true) × (semaphore k i .count ≡ 0)
 ConditionKept k ticks (ForEvent i) = (i < eventCount) × (isTrue (k .bits) (event k i) ≡ false)
 ConditionKept k ticks (ForMessage mask) = (0 < mask) × (mask ≤ 32767)
+ConditionKept k ticks (ForFlag i) = (i < flagCount) × (bitAt (k .flags) i ≡ true)
 
 condition-exactly : (k : Kernel) (ticks : ℕ) (c : Condition)
-    → (conditionKept (k .semaphores) (k .events) (k .bits) ticks c ≡ true) ↔ ConditionKept k ticks c
+    → (conditionKept (k .semaphores) (k .events) (k .bits) (k .flags) ticks c ≡ true) ↔ ConditionKept k ticks c
 unfolding conditionKept
 condition-exactly k ticks Ready = simp tests Iff·rfl
 condition-exactly k ticks Asleep = simp tests Iff·rfl
 condition-exactly k ticks (ForSemaphore i) = simp tests Iff·rfl
 condition-exactly k ticks (ForEvent i) = simp tests Iff·rfl
 condition-exactly k ticks (ForMessage mask) = simp tests Iff·rfl
+condition-exactly k ticks (ForFlag i) = simp tests Iff·rfl
 
 pub record LiveThread (k : Kernel) (r : Thread) : Type 0 where
   pub priority : (1 ≤ r .priority) × (r .priority ≤ priorityCount) × (1 ≤ r .first) × (r .first ≤ priorityCount)
   pub reply : (r .reply < messageCount) ⊎ (r .reply ≡ 255)
   pub condition : ConditionKept k (r .ticks) (r .condition)
 
-thread-lives : (k : Kernel) (r : Thread) → (liveThreadKept (k .semaphores) (k .events) (k .bits) r ≡ true) ↔ LiveThread k r
+thread-lives : (k : Kernel) (r : Thread) → (liveThreadKept (k .semaphores) (k .events) (k .bits) (k .flags) r ≡ true) ↔ LiveThread k r
 unfolding liveThreadKept
 thread-lives k r = (
   λ h. let (p, (p′, (f, (f′, (a, c))))) = simp (tests, condition-exactly k) at h in
@@ -147,7 +151,7 @@ KeptThread k r = Kept (λ (s : Thread). s .live) noThread (LiveThread k) r
 pub threads-exactly : (k : Kernel) → (threadsKept k ≡ true) ↔ ((t : ℕ) → KeptThread k (thread k t))
 unfolding threadsKept threadKept
 threads-exactly k =
-    let lives = liveThreadKept (k .semaphores) (k .events) (k .bits) in
+    let lives = liveThreadKept (k .semaphores) (k .events) (k .bits) (k .flags) in
     kept-exactly (λ r. r .live) lives isNoThread noThread (LiveThread k) refl (thread-lives k) thread-gone (k .threads)
 
 -- ---- semaphores

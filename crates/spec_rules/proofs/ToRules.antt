@@ -13,11 +13,11 @@ use Rattle.base_queue.specs.Tables.{one}
 use Rattle.base_queue.proofs.Counts.{count-keep, kept}
 use Rattle.base_queue.proofs.Orders.{ordered-pairs}
 use Rattle.spec_kernel.specs.declared.records.Condition.{Condition}
-use Rattle.spec_kernel.specs.declared.records.Condition.the-variants.{Ready, Asleep, ForSemaphore, ForEvent, ForMessage}
+use Rattle.spec_kernel.specs.declared.records.Condition.the-variants.{Ready, Asleep, ForSemaphore, ForEvent, ForMessage, ForFlag}
 use Rattle.spec_kernel.specs.declared.records.Kernel.{Kernel}
 use Rattle.spec_kernel.specs.Records.{thread, semaphore, message}
-use Rattle.spec_kernel.specs.Sizes.{threadCount, eventCount, messageCount, channelCount}
-use Rattle.spec_kernel.specs.Conditions.{Class, ofSemaphores, ofEvents, idsIn, onObject, waitsFor}
+use Rattle.spec_kernel.specs.Sizes.{threadCount, eventCount, flagCount, messageCount, channelCount}
+use Rattle.spec_kernel.specs.Conditions.{Class, ofSemaphores, ofEvents, ofFlags, idsIn, onObject, waitsFor}
 use Rattle.spec_kernel.specs.Places.{home as place, homeOf, rankOf, atHome, queueOf, semaphoreQueue, eventQueue}
 use Rattle.spec_kernel.specs.Places.{isQueued, onChannel, channel}
 use Rattle.spec_rules.specs.Rules.{Sized, Rules}
@@ -42,9 +42,14 @@ on-object class i Ready h = cc
 on-object class i Asleep h = cc
 on-object ofSemaphores i (ForSemaphore j) h = ap ForSemaphore (eqb-true j i h)
 on-object ofEvents i (ForSemaphore j) h = cc
+on-object ofFlags i (ForSemaphore j) h = cc
 on-object ofSemaphores i (ForEvent j) h = cc
 on-object ofEvents i (ForEvent j) h = ap ForEvent (eqb-true j i h)
+on-object ofFlags i (ForEvent j) h = cc
 on-object class i (ForMessage mask) h = cc
+on-object ofSemaphores i (ForFlag j) h = cc
+on-object ofEvents i (ForFlag j) h = cc
+on-object ofFlags i (ForFlag j) h = ap ForFlag (eqb-true j i h)
 
 module _ (k : Kernel) (Z : Sized k) (W : Whole k) where
   abbrev home : (t : ℕ) → Housed (thread k t)
@@ -78,6 +83,8 @@ module _ (k : Kernel) (Z : Sized k) (W : Whole k) where
   unfolding LiveObjects
   live-objects ofSemaphores t i e = (rw (on-object ofSemaphores i (thread k t .condition) e) at (condition t)) .0
   live-objects ofEvents t i e = lt-ltb i eventCount ((rw (on-object ofEvents i (thread k t .condition) e) at (condition t)) .0)
+  live-objects ofFlags t i e =
+      let (b, l) = rw (on-object ofFlags i (thread k t .condition) e) at (condition t) in rw (lt-ltb i flagCount b, l)
 
   none-awaited : NoneAwaited k
   unfolding NoneAwaited

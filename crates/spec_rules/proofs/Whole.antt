@@ -8,7 +8,7 @@ use lib.Dec.{ltb}
 use borrow.Author.Tests.{lt-ltb, ltb-true, ltb-false}
 use borrow.Table.Steps.{cases}
 use Rattle.spec_kernel.specs.declared.records.Condition.{Condition}
-use Rattle.spec_kernel.specs.declared.records.Condition.the-variants.{Ready, Asleep, ForSemaphore, ForEvent, ForMessage}
+use Rattle.spec_kernel.specs.declared.records.Condition.the-variants.{Ready, Asleep, ForSemaphore, ForEvent, ForMessage, ForFlag}
 use Rattle.spec_kernel.specs.declared.records.Kernel.{Kernel}
 use Rattle.spec_kernel.specs.Sizes.{semaphoreCount}
 use Rattle.spec_kernel.specs.Records.{thread, semaphore, message, noSemaphore}
@@ -74,6 +74,7 @@ module _ (k : Kernel) (Z : Sized k) where
     ticking ticks (ForSemaphore i) h = refl
     ticking ticks (ForEvent i) h = refl
     ticking ticks (ForMessage mask) h = refl
+    ticking ticks (ForFlag i) h = refl
 
     -- the timed threads are those with ticks left
     pub timed : (t : ℕ) → isTimed (thread k t) ≡ ltb 0 (thread k t .ticks)

@@ -11,9 +11,9 @@ use Rattle.base_queue.specs.Queues.{capacity, items, Tidy}
 use Rattle.base_queue.specs.Tables.{one}
 use Rattle.spec_kernel.specs.declared.records.Condition.the-variants.{ForMessage}
 use Rattle.spec_kernel.specs.declared.records.Kernel.{Kernel}
-use Rattle.spec_kernel.specs.Records.{thread, semaphore, event, message, noThread, noSemaphore, noMessage}
+use Rattle.spec_kernel.specs.Records.{thread, semaphore, event, message, flag, noThread, noSemaphore, noMessage}
 use Rattle.spec_kernel.specs.Sizes.{threadCount, semaphoreCount, eventCount, messageCount, priorityCount, channelCount}
-use Rattle.spec_kernel.specs.Conditions.{isReady, Class, ofSemaphores, ofEvents, idsIn, onObject, waitsFor, isTimed, masks}
+use Rattle.spec_kernel.specs.Conditions.{isReady, Class, ofSemaphores, ofEvents, ofFlags, idsIn, onObject, waitsFor, isTimed, masks}
 use Rattle.spec_kernel.specs.Places.{homeOf, hasHome, atHome, readyList, queueOf, semaphoreQueue}
 use Rattle.spec_kernel.specs.Places.{eventQueue, timeQueue, channel, onChannel, isQueued, streamOf}
 use Rattle.spec_kernel.specs.Truth.{isTrue}
@@ -37,14 +37,15 @@ pub record Sized (k : Kernel) : Type 0 where
 unfoldable pub ReadyPlaces : Kernel → Type 0
 ReadyPlaces k = (t p : ℕ) → p ≤ priorityCount → count t (readyList k p) ≡ one (isReady (thread k t) && eqb (thread k t .priority) p)
 
--- Who waits for a semaphore or event stands once in its queue, and nobody else does; what is waited for is live [01, state 1.3].
+-- Who waits for a semaphore, event or flag stands once in its queue, and nobody else does; what is waited for is live [01, state 1.3; 02 §1].
 unfoldable pub WaitingPlaces : Kernel → Type 0
 WaitingPlaces k = (class : Class) (t i : ℕ) → i < idsIn class → count t (queueOf class k i) ≡ one (waitsFor class i (thread k t))
 
--- a semaphore that is live; an event is always there
+-- a semaphore or a flag that is live; an event is always there
 abbrev pub isObject : Class → Kernel → ℕ → Bool
 isObject ofSemaphores k i = semaphore k i .live
 isObject ofEvents k i = ltb i eventCount
+isObject ofFlags k i = flag k i
 
 unfoldable pub LiveObjects : Kernel → Type 0
 LiveObjects k = (class : Class) (t i : ℕ) → onObject class i (thread k t .condition) ≡ true → isObject class k i ≡ true

@@ -8,14 +8,14 @@ use Rattle.base_queue.specs.Lists.{everyFrom}
 use Rattle.base_queue.specs.Queues.{items, isTidy}
 use Rattle.base_queue.specs.Tables.{isPlaced, isOrderedFrom}
 use Rattle.spec_kernel.specs.declared.records.Condition.{Condition}
-use Rattle.spec_kernel.specs.declared.records.Condition.the-variants.{Ready, Asleep, ForSemaphore, ForEvent, ForMessage}
+use Rattle.spec_kernel.specs.declared.records.Condition.the-variants.{Ready, Asleep, ForSemaphore, ForEvent, ForMessage, ForFlag}
 use Rattle.spec_kernel.specs.declared.records.Wake.{Wake}
 use Rattle.spec_kernel.specs.declared.records.Thread.{Thread}
 use Rattle.spec_kernel.specs.declared.records.Semaphore.{Semaphore}
 use Rattle.spec_kernel.specs.declared.records.Event.{Event}
 use Rattle.spec_kernel.specs.declared.records.Message.{Message}
 use Rattle.spec_kernel.specs.declared.records.Kernel.{Kernel}
-use Rattle.spec_kernel.specs.Records.{thread, noThread, noSemaphore, noEvent, noMessage}
+use Rattle.spec_kernel.specs.Records.{thread, flagIn, noThread, noSemaphore, noEvent, noMessage}
 use Rattle.spec_kernel.specs.Sizes.{threadCount, eventCount, messageCount, priorityCount, channelCount}
 use Rattle.spec_kernel.specs.Conditions.{readyFor, isReady, awaits}
 use Rattle.spec_kernel.specs.Places.{hasHome, rankOf, isQueued, streamOf}
@@ -53,26 +53,27 @@ abbrev pub eventWaited : List Event → ℕ → ℕ → Bool
 eventWaited events bits i = ltb i eventCount && not (isTrue bits (getD events i noEvent))
 
 -- a live thread's condition: its ticks left, and the object that it waits for
-unfoldable pub conditionKept : List Semaphore → List Event → ℕ → ℕ → Condition → Bool
-conditionKept semaphores events bits ticks Ready = eqb ticks 0
-conditionKept semaphores events bits ticks Asleep = ltb 0 ticks
-conditionKept semaphores events bits ticks (ForSemaphore i) = semaphoreWaited semaphores i
-conditionKept semaphores events bits ticks (ForEvent i) = eventWaited events bits i
-conditionKept semaphores events bits ticks (ForMessage mask) = ltb 0 mask && leb mask 32767
+unfoldable pub conditionKept : List Semaphore → List Event → ℕ → ℕ → ℕ → Condition → Bool
+conditionKept semaphores events bits flags ticks Ready = eqb ticks 0
+conditionKept semaphores events bits flags ticks Asleep = ltb 0 ticks
+conditionKept semaphores events bits flags ticks (ForSemaphore i) = semaphoreWaited semaphores i
+conditionKept semaphores events bits flags ticks (ForEvent i) = eventWaited events bits i
+conditionKept semaphores events bits flags ticks (ForMessage mask) = ltb 0 mask && leb mask 32767
+conditionKept semaphores events bits flags ticks (ForFlag i) = flagIn flags i
 
-unfoldable pub liveThreadKept : List Semaphore → List Event → ℕ → Thread → Bool
-liveThreadKept semaphores events bits r =
+unfoldable pub liveThreadKept : List Semaphore → List Event → ℕ → ℕ → Thread → Bool
+liveThreadKept semaphores events bits flags r =
     allOf
     (ltb 0 (r .priority)
     ∷ leb (r .priority) priorityCount
     ∷ ltb 0 (r .first)
     ∷ leb (r .first) priorityCount
     ∷ (ltb (r .reply) messageCount || eqb (r .reply) 255)
-    ∷ conditionKept semaphores events bits (r .ticks) (r .condition)
+    ∷ conditionKept semaphores events bits flags (r .ticks) (r .condition)
     ∷ [])
 
-unfoldable pub threadKept : List Semaphore → List Event → ℕ → Thread → Bool
-threadKept semaphores events bits r = cond (r .live) (liveThreadKept semaphores events bits r) (isNoThread r)
+unfoldable pub threadKept : List Semaphore → List Event → ℕ → ℕ → Thread → Bool
+threadKept semaphores events bits flags r = cond (r .live) (liveThreadKept semaphores events bits flags r) (isNoThread r)
 
 -- ticks left are above 0 exactly where the semaphore is periodic
 unfoldable pub liveSemaphoreKept : Semaphore → Bool
@@ -100,7 +101,7 @@ unfoldable pub messageKept : List Thread → Message → Bool
 messageKept threads r = cond (r .live) (liveMessageKept threads r) (isNoMessage r)
 
 unfoldable pub threadsKept : Kernel → Bool
-threadsKept k = everyFrom (λ _ r. threadKept (k .semaphores) (k .events) (k .bits) r) 0 (k .threads)
+threadsKept k = everyFrom (λ _ r. threadKept (k .semaphores) (k .events) (k .bits) (k .flags) r) 0 (k .threads)
 
 unfoldable pub semaphoresKept : Kernel → Bool
 semaphoresKept k = everyFrom (λ _ r. semaphoreKept r) 0 (k .semaphores)

@@ -94,5 +94,6 @@ destroy-destroys k c S F id =
       otherChannels = freed-others k a;
       semaphores = refl;
       events = record { records = refl; bits = refl };
+      flags = refl;
       scheduler = record { uptime = refl; unscheduled = refl; critical = refl; runner = refl };
     }

@@ -12,7 +12,7 @@ use Rattle.base_queue.specs.Queues.{items}
 use Rattle.base_queue.proofs.Counts.{count-keep, kept, keep-all, without-absent}
 use Rattle.base_queue.proofs.Tables.{placed-once}
 use Rattle.spec_kernel.specs.declared.records.Condition.{Condition}
-use Rattle.spec_kernel.specs.declared.records.Condition.the-variants.{Ready, Asleep, ForSemaphore, ForEvent, ForMessage}
+use Rattle.spec_kernel.specs.declared.records.Condition.the-variants.{Ready, Asleep, ForSemaphore, ForEvent, ForMessage, ForFlag}
 use Rattle.spec_kernel.specs.declared.records.Thread.{Thread}
 use Rattle.spec_kernel.specs.declared.records.Kernel.{Kernel}
 use Rattle.spec_moves.specs.declared.parts.Threads.{Threads}
@@ -74,6 +74,7 @@ stopped-home r l e = rw l (go (r .condition) (rw l at e))
     go (ForSemaphore i) z = omega arith
     go (ForEvent i) z = omega arith
     go (ForMessage mask) z = omega arith
+    go (ForFlag i) z = omega arith
 
 module _ {p : Threads} (S : Standing p) where
   -- a live thread has an id
@@ -149,6 +150,7 @@ pub place-only : (t : ℕ) (r : Thread) (k : Kernel) → OnlyThreads k (moveThre
 place-only t r k = record {
   semaphores = refl;
   events = record { records = refl; bits = refl };
+  flags = refl;
   messages = record { records = refl; posted = refl };
   scheduler = record { uptime = refl; unscheduled = refl; critical = refl; runner = refl };
 }

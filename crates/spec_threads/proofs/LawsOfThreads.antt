@@ -9,7 +9,7 @@ use borrow.Author.Tests.{eqb-true, eqb-false}
 use borrow.Table.Steps.{cases}
 use Rattle.base_queue.specs.Queues.{items}
 use Rattle.spec_kernel.specs.declared.records.Condition.{Condition}
-use Rattle.spec_kernel.specs.declared.records.Condition.the-variants.{Ready, Asleep, ForSemaphore, ForEvent, ForMessage}
+use Rattle.spec_kernel.specs.declared.records.Condition.the-variants.{Ready, Asleep, ForSemaphore, ForEvent, ForMessage, ForFlag}
 use Rattle.spec_kernel.specs.declared.records.Kernel.{Kernel}
 use Rattle.spec_kernel.specs.Sizes.{threadCount}
 use Rattle.spec_kernel.specs.Records.{thread, noThread}
@@ -78,6 +78,7 @@ unmoved Asleep p q e = refl
 unmoved (ForSemaphore i) p q e = refl
 unmoved (ForEvent i) p q e = refl
 unmoved (ForMessage mask) p q e = refl
+unmoved (ForFlag i) p q e = refl
 
 module _ (k : Kernel) (S : Standing (threadsOf k)) (a new : ℕ) (l : thread k a .live ≡ true) (b : new < 256) where
   reprioritized : Reprioritized new a k (moveThread a (prioritized new (thread k a)) k)
@@ -92,6 +93,7 @@ module _ (k : Kernel) (S : Standing (threadsOf k)) (a new : ℕ) (l : thread k a
         lists = λ e h ne. relocate-leaves (threadsOf k) a r S id (λ z. ne (z ∙ ready-home r e));
         semaphore = λ i s e. line-joins S a id r (home ∙ rw e) (λ z. omega arith);
         event = λ i s e. line-joins S a id r (home ∙ rw e) (λ z. omega arith);
+        flag = λ i s e. line-joins S a id r (home ∙ rw e) (λ z. omega arith);
         elsewhere = λ e h ne. relocate-leaves (threadsOf k) a r S id (λ z. ne (z ∙ home)) ∙ line-without S a h (λ z. ne (sym z ∙ stays e));
         time = ap items (time-stays (threadsOf k) a r refl);
         itself = relocate-same (threadsOf k) a r (S .count) id;

@@ -25,7 +25,7 @@ use Rattle.spec_threads.specs.Threads.{wake}
 use Rattle.spec_laws.specs.Words.{withoutAll, readied, OnlyThreads}
 use Rattle.spec_threads.proofs.LawsOfHomes.{Stopped}
 use Rattle.spec_threads.proofs.LawsOfLists.{withoutAll-next}
-use Rattle.spec_threads.proofs.LawsOfHomes.{place-only, stopped-home, live-id, line-without, time-left}
+use Rattle.spec_threads.proofs.LawsOfHomes.{place-only, stopped-home, live-id, line-without, line-once, line-stopped, time-left}
 use Rattle.spec_laws.specs.OfThreads.{Woken}
 
 -- ---- one thread
@@ -184,3 +184,12 @@ module _ (why : Thread → Wake) where
         woken = next-woken S x l C R;
         others = next-others S x l C R;
       }
+
+-- ---- a queue
+-- every priority is a byte
+abbrev pub Bytes : Threads → Type 0
+Bytes p = (t : ℕ) → threadIn p t .priority < 256
+
+-- who stands in an object's queue stands there once, and waits
+pub line-called : {p : Threads} → Standing p → Bytes p → (h : ℕ) → 256 ≤ h → Called p (atHomeIn p h)
+line-called S B h b t c = (omega (arith, line-once S t h), line-stopped S t (B t) b c)

@@ -194,6 +194,7 @@ module _ (k : Kernel) (c : Call) (S : Standing (threadsOf k)) (T : (t : ℕ) →
           records = hides (λ s. s .events) (λ _ _. refl) (λ _ _. refl);
           bits = hides (λ s. s .bits) (λ _ _. refl) (λ _ _. refl);
         };
+    flags = hides (λ s. s .flags) (λ _ _. refl) (λ _ _. refl);
     messages =
         record {
           records = hides (λ s. s .messages) (λ _ _. refl) (λ _ _. refl);

@@ -6,7 +6,7 @@ use lib.Dec.{eqb}
 use Rattle.base_queue.specs.Lists.{keep}
 use Rattle.base_queue.specs.Queues.{items}
 use Rattle.spec_kernel.specs.declared.records.Condition.{Condition}
-use Rattle.spec_kernel.specs.declared.records.Condition.the-variants.{Ready, Asleep, ForSemaphore, ForEvent, ForMessage}
+use Rattle.spec_kernel.specs.declared.records.Condition.the-variants.{Ready, Asleep, ForSemaphore, ForEvent, ForMessage, ForFlag}
 use Rattle.spec_kernel.specs.declared.records.Object.{Object}
 use Rattle.spec_kernel.specs.declared.records.Wake.{Wake}
 use Rattle.spec_kernel.specs.declared.records.Thread.{Thread}
@@ -32,6 +32,7 @@ reasonAt Asleep = Wake.Met
 reasonAt (ForSemaphore i) = Wake.TimedOut Object.Semaphore
 reasonAt (ForEvent i) = Wake.TimedOut Object.Event
 reasonAt (ForMessage mask) = Wake.TimedOut Object.Message
+reasonAt (ForFlag i) = Wake.TimedOut Object.Flag
 
 unfoldable pub timeUp : ℕ → Threads → Threads
 timeUp t p = relocate t (awake (reasonAt (threadIn p t .condition)) (threadIn p t .reply) (threadIn p t)) p

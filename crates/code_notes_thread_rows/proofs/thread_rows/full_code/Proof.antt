@@ -2,7 +2,7 @@ use Prim.Native.Nat.{_≤_}
 use native.Mathlib.Omega.{arith}
 use borrow.Author.Needs.{needs}
 use Rattle.spec_kernel.specs.declared.records.Condition.{Condition}
-use Rattle.spec_kernel.specs.declared.records.Condition.the-variants.{Ready, Asleep, ForSemaphore, ForEvent, ForMessage}
+use Rattle.spec_kernel.specs.declared.records.Condition.the-variants.{Ready, Asleep, ForSemaphore, ForEvent, ForMessage, ForFlag}
 use Rattle.spec_notes.specs.Rows.{conditionCode}
 use Rattle.code_notes_thread_rows.proofs.thread_rows.full_code.Statement.{statement}
 use Rattle.code_notes_thread_rows.proofs.thread_rows.full_code.Tie as tie
@@ -13,6 +13,7 @@ code-below Asleep = omega arith
 code-below (ForSemaphore i) = omega arith
 code-below (ForEvent i) = omega arith
 code-below (ForMessage mask) = omega arith
+code-below (ForFlag i) = omega arith
 
 condition-code-requires : tie.Need-condition-code-requires
 condition-code-requires c κs = search needs
