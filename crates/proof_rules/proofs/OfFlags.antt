@@ -48,6 +48,15 @@ flag-waiter C t i e =
     let b : i < flagCount = (rw e at (condition-of C t)) .0 in
     home-line C (768 + i) t (rw (live-waiter C t (λ z. let y : _≡_ {A = ℕ} 0 1 = cc in omega arith), e)) (omega arith)
 
+-- an accepted pend comes at critical level 1 and unscheduled level 0
+pub pend-levels : {k : Kernel} {c : Call} → Accepted k c → c .kind ≡ 33 → (k .unscheduled ≡ 0) × (k .critical ≡ 1)
+unfolding blocksInRegion
+pend-levels {k} A e =
+    let (u, one) =
+    and-eq-true-iff (eqb (k .unscheduled) 0) (eqb (k .critical) 1) .0
+    (not-false (eqb (k .unscheduled) 0 && eqb (k .critical) 1) (rw e at (A .region))) in
+    (eqb-true (k .unscheduled) 0 u, eqb-true (k .critical) 1 one)
+
 module _ {k : Kernel} (B : Before k) {c : Call} (A : Accepted k c) where
   -- one more is live
   pub kind-31 : c .kind ≡ 31 → Good (createFlag k c)
@@ -79,13 +88,9 @@ module _ {k : Kernel} (B : Before k) {c : Call} (A : Accepted k c) where
 
   -- the caller blocks once the region has ended
   pub kind-33 : c .kind ≡ 33 → Good (pendFlag k c)
-  unfolding pendFlag popCritical blocksInRegion fromThread kindOf
+  unfolding pendFlag popCritical fromThread kindOf
   kind-33 e =
-      let (u, one) =
-      and-eq-true-iff (eqb (k .unscheduled) 0) (eqb (k .critical) 1) .0
-      (not-false (eqb (k .unscheduled) 0 && eqb (k .critical) 1) (rw e at (A .region))) in
-      let z : k .unscheduled ≡ 0 = eqb-true (k .unscheduled) 0 u in
-      let y : k .critical ≡ 1 = eqb-true (k .critical) 1 one in
+      let (u, one) = pend-levels A e in
       let ready = caller-ready B A (rw e) in
       let out : Before (popCritical k c) = record {
         core = scheduler-core (B .core) (k .uptime) (k .unscheduled) (k .critical - 1) (k .runner);

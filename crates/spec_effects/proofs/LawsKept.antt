@@ -1,11 +1,11 @@
 -- Every accepted call does what the law of its kind says.
 use Prim.Native.Nat.{ℕ, _<_}
 use mathlib.Core.Path.{_≡_, refl}
-use mathlib.Core.Bool.{true, false, _&&_, or-false, and-eq-true-iff}
+use mathlib.Core.Bool.{true, false, or-false}
 use native.Mathlib.Omega.{arith}
-use lib.Dec.{eqb, ltb, leb}
+use lib.Dec.{ltb, leb}
 use lib.ListN.{length, getD}
-use borrow.Author.Tests.{eqb-true, eqb-false, leb-false, not-false}
+use borrow.Author.Tests.{eqb-false, leb-false}
 use Rattle.spec_kernel.specs.declared.records.Kernel.{Kernel}
 use Rattle.spec_kernel.specs.Sizes.{eventCount, priorityCount, channelCount, bitCount}
 use Rattle.spec_kernel.specs.Records.{semaphore, message, noThread, noSemaphore, noMessage}
@@ -17,7 +17,7 @@ use Rattle.spec_rules.specs.Rules.{Sized, Rules}
 use Rattle.spec_calls.specs.declared.call.Call.{Call}
 use Rattle.spec_calls.specs.Kinds.{kinds, noKind, names, kindOf, fromThread}
 use Rattle.spec_refusals.specs.Named.{named, valueOf}
-use Rattle.spec_refusals.specs.Refusals.{badNumber, badId, isInChannel, blocksInRegion, noneFree, outside, numberOf}
+use Rattle.spec_refusals.specs.Refusals.{badNumber, badId, isInChannel, noneFree, outside, numberOf}
 use Rattle.spec_threads.specs.Threads.{createThread, destroyThread, setPriority, resetPriority, yielded, sleep}
 use Rattle.spec_regions.specs.Regions.{pushUnscheduled, popUnscheduled, popAllUnscheduled, pushCritical, popCritical, popAllCritical}
 use Rattle.spec_semaphores.specs.Semaphores.{createSemaphore, destroySemaphore, makePeriodic, removePeriodic, pendSemaphore, postSemaphore}
@@ -43,6 +43,7 @@ use Rattle.spec_messages.proofs.LawsOfMessages.{pend-message-pends, post-messag
 use Rattle.spec_time.proofs.LawsOfTime.{tick-ticks}
 use Rattle.proof_rules.proofs.Core.{live-thread, live-semaphore, live-message}
 use Rattle.proof_rules.proofs.Ends.{Before, before}
+use Rattle.proof_rules.proofs.OfFlags.{pend-levels}
 use Rattle.proof_rules.proofs.OfTime.{turn-core}
 use Rattle.proof_rules.proofs.Accepted.{Accepted, accepted, neither, inside, thread-named, semaphore-named, message-named}
 use Rattle.spec_effects.specs.Effects.{effect}
@@ -244,15 +245,9 @@ module _ {k : Kernel} (B : Before k) {c : Call} (A : Accepted k c) where
   kind-32 e = by-kind k c e _ (refl, destroy-flag-clears k c)
 
   kind-33 : c .kind ≡ 33 → Holds (pendFlag k c)
-  unfolding kindOf fromThread blocksInRegion
+  unfolding kindOf fromThread
   kind-33 e =
-      let (u, one) =
-      and-eq-true-iff (eqb (k .unscheduled) 0) (eqb (k .critical) 1) .0
-      (not-false (eqb (k .unscheduled) 0 && eqb (k .critical) 1) (rw e at (A .region))) in
-      by-kind k c e _ (
-        refl,
-        pend-flag-pends k c (B .core .standing) (eqb-true (k .unscheduled) 0 u) (eqb-true (k .critical) 1 one) (runnable B A (rw e)),
-      )
+      let (u, one) = pend-levels A e in by-kind k c e _ (refl, pend-flag-pends k c (B .core .standing) u one (runnable B A (rw e)))
 
   kind-34 : c .kind ≡ 34 → Holds (postFlag k c)
   kind-34 e = by-kind k c e _ (refl, post-flag-posts k c (B .core .standing) (bytes (B .core)))
