@@ -1,10 +1,13 @@
 -- The lowest clear bit is clear, every bit before it is set, and 255 says that all are.
-use Prim.Native.Nat.{ℕ, zero, suc, _+_, _≤_, _<_}
+use Prim.Native.Nat.{ℕ, zero, suc, _+_, _^_, _≤_, _<_}
 use mathlib.Core.Path.{_≡_, refl, sym, _∙_}
 use mathlib.Core.Bool.{true, false, true≢false}
 use native.Mathlib.Omega.{arith}
+use lib.Dec.{eqb}
+use borrow.Author.Tests.{eqb-true, eqb-false}
 use borrow.Table.Steps.{cases}
-use Rattle.base_bits.specs.Words.{bitAt}
+use Rattle.base_bits.specs.Words.{bitAt, withBit}
+use Rattle.base_bits.proofs.Laws.{with-high, with-below}
 use Rattle.spec_kernel.specs.Free.{lowestClear}
 
 module _ (word : ℕ) where
@@ -43,3 +46,10 @@ module _ (word : ℕ) where
     -- 255 says that every one is set
     pub none-clear : n ≤ 255 → lowestClear word 0 n ≡ 255 → (j : ℕ) → j < n → bitAt word j ≡ true
     none-clear b s j h = before j h (omega arith)
+
+    -- a word of n bits stays one with that bit set
+    pub with-lowest : word < 2 ^ n → withBit word (lowestClear word 0 n) < 2 ^ n
+    with-lowest b =
+        cases (eqb (lowestClear word 0 n) 255)
+        (λ e. let z = eqb-true (lowestClear word 0 n) 255 e in rw (with-high word (lowestClear word 0 n) (omega arith)) b)
+        (λ e. with-below word (lowestClear word 0 n) (clear-is-clear (eqb-false (lowestClear word 0 n) 255 e) .0) b)

@@ -5,11 +5,12 @@ use mathlib.Core.Bool.{Bool, true, not, false≢true}
 use mathlib.Core.Logic.{_↔_}
 use native.Mathlib.Omega.{arith}
 use borrow.Table.Steps.{cases}
+use Rattle.base_bits.specs.Words.{sameBit}
 use Rattle.base_queue.specs.Tables.{one}
 use Rattle.spec_kernel.specs.declared.records.Message.{Message}
 use Rattle.spec_kernel.specs.declared.records.Kernel.{Kernel}
-use Rattle.spec_kernel.specs.Sizes.{threadCount, semaphoreCount, messageCount}
-use Rattle.spec_kernel.specs.Records.{thread, semaphore, message}
+use Rattle.spec_kernel.specs.Sizes.{threadCount, semaphoreCount, messageCount, flagCount}
+use Rattle.spec_kernel.specs.Records.{thread, semaphore, message, flag}
 use Rattle.spec_notes.specs.Touched.{sameThread, sameSemaphore, sameMessage}
 use Rattle.spec_notes.specs.Counts.{Counts, none, has, lacks, withoutPlace}
 
@@ -30,6 +31,9 @@ semaphoresDiffer k k′ = countFrom (λ i. not (sameSemaphore (semaphore k i) (s
 
 unfoldable pub messagesDiffer : Kernel → Kernel → ℕ
 messagesDiffer k k′ = countFrom (λ m. not (sameMessageRecord (message k m) (message k′ m))) 0 messageCount
+
+unfoldable pub flagsDiffer : Kernel → Kernel → ℕ
+flagsDiffer k k′ = countFrom (λ i. not (sameBit (flag k i) (flag k′ i))) 0 flagCount
 
 -- ---- what they count
 -- the last of n ids may as well be counted first

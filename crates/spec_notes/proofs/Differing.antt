@@ -1,24 +1,35 @@
--- The tests count the records that are not equal: T, S and M of document 01.
+-- The tests count the records that are not equal: T, S and M of document 01, F of document 02.
 use Prim.Native.Nat.{ℕ}
-use mathlib.Core.Path.{_≡_, sym, _∙_}
-use mathlib.Core.Bool.{Bool, true, not, false≢true}
+use mathlib.Core.Path.{_≡_, refl, sym, _∙_}
+use mathlib.Core.Bool.{Bool, true, false, not, false≢true}
 use mathlib.Core.Logic.{_↔_}
 use borrow.Author.Tests.{not-true}
 use borrow.Table.Steps.{cases}
+use Rattle.base_bits.specs.Words.{sameBit}
 use Rattle.spec_kernel.specs.declared.records.Message.{Message}
 use Rattle.spec_kernel.specs.declared.records.Kernel.{Kernel}
-use Rattle.spec_kernel.specs.Records.{thread, semaphore, message}
+use Rattle.spec_kernel.specs.Records.{thread, semaphore, message, flag}
 use Rattle.spec_notes.specs.Rows.{messageRow}
 use Rattle.spec_notes.specs.Touched.{sameThread, sameSemaphore, sameMessage}
 use Rattle.spec_notes.specs.Counts.{Differ, withoutPlace}
 use Rattle.spec_notes.proofs.RecordsBack.{same-thread, same-semaphore, same-message}
-use Rattle.spec_notes.proofs.Counting.{sameMessageRecord, threadsDiffer, semaphoresDiffer, messagesDiffer, counts-tested}
+use Rattle.spec_notes.proofs.Counting.{sameMessageRecord, threadsDiffer, semaphoresDiffer, messagesDiffer, flagsDiffer, counts-tested}
 use Rattle.spec_notes.proofs.Slight.{row-same}
 use Rattle.spec_notes.proofs.Lengths.{thread-same, semaphore-same}
 
 message-same : (r : Message) → sameMessage r r ≡ true
 unfolding sameMessage
 message-same r = row-same (messageRow r 0)
+
+bit-same : (b : Bool) → sameBit b b ≡ true
+bit-same true = refl
+bit-same false = refl
+
+same-bit : (a b : Bool) → sameBit a b ≡ true → a ≡ b
+same-bit true true h = refl
+same-bit true false h = sym h
+same-bit false true h = h
+same-bit false false h = refl
 
 -- a test that passes for equals alone fails exactly for unequals
 fails-exactly : {A : Type 0} (same : A → A → Bool) → ((x : A) → same x x ≡ true) → (x y : A) → (same x y ≡ true → x ≡ y)
@@ -46,10 +57,14 @@ module _ (k k′ : Kernel) where
       let s = withoutPlace (message k′ m) in
       fails-exactly sameMessage message-same r s (same-message r s)
 
-  pub differ : Differ k k′ (threadsDiffer k k′) (semaphoresDiffer k k′) (messagesDiffer k k′)
-  unfolding threadsDiffer semaphoresDiffer messagesDiffer
+  flag-differs : (i : ℕ) → (not (sameBit (flag k i) (flag k′ i)) ≡ true) ↔ (flag k i ≡ flag k′ i → ⊥)
+  flag-differs i = fails-exactly sameBit bit-same (flag k i) (flag k′ i) (same-bit (flag k i) (flag k′ i))
+
+  pub differ : Differ k k′ (threadsDiffer k k′) (semaphoresDiffer k k′) (messagesDiffer k k′) (flagsDiffer k k′)
+  unfolding threadsDiffer semaphoresDiffer messagesDiffer flagsDiffer
   differ = record {
     threads = counts-tested _ _ thread-differs _;
     semaphores = counts-tested _ _ semaphore-differs _;
     messages = counts-tested _ _ message-differs _;
+    flags = counts-tested _ _ flag-differs _;
   }

@@ -27,10 +27,10 @@ use Rattle.spec_moves.specs.Standing.{threadsOf, postsOf, messageIn}
 use Rattle.spec_calls.specs.declared.call.Call.{Call}
 use Rattle.spec_refusals.specs.Refusals.{is}
 use Rattle.spec_notes.specs.Rows.{threadCode, threadWidths, semaphoreWidths, eventWidths, messageWidths, schedulerWidths}
-use Rattle.spec_notes.specs.Predicted.{predictedMessage}
+use Rattle.spec_notes.specs.Predicted.{predictedMessage, predictedFlags}
 use Rattle.spec_notes.specs.Sections.{entriesFrom, threadEntry, threadEntries, threadsSection, semaphoreEntry, semaphoreEntries}
 use Rattle.spec_notes.specs.Sections.{semaphoresSection, eventEntry, eventEntries, bitNoted, eventsSection, messageEntry}
-use Rattle.spec_notes.specs.Sections.{messageEntries, messagesSection, levelsNoted, schedulerSection}
+use Rattle.spec_notes.specs.Sections.{flagsSection, messageEntries, messagesSection, levelsNoted, schedulerSection}
 use Rattle.spec_notes.proofs.Counting.{countFrom}
 
 -- ---- entries
@@ -166,6 +166,10 @@ module _ (k : Kernel) (c : Call) (k′ : Kernel) where
   unfolding eventsSection
   events-below =
       rw length-append (omega (arith, bit-short (k .bits) (k′ .bits), events-run (k .events) (k′ .events) 0 eventCount))
+
+  pub flags-below : length (flagsSection k c k′) ≤ 1
+  unfolding flagsSection
+  flags-below = cases (eqb (k .flags) (predictedFlags c (k′ .flags))) (λ e. rw e (omega arith)) (λ e. rw e (omega arith))
 
   pub messages-below : length (messagesSection k c k′) ≤ 17 * messageCount
   unfolding messagesSection

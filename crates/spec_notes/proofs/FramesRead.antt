@@ -11,11 +11,12 @@ use Rattle.base_bytes.specs.Bytes.{le, un}
 use Rattle.base_bytes.proofs.Numbers.{length-le, drop-le, un-le}
 use Rattle.spec_kernel.specs.declared.records.Kernel.{Kernel}
 use Rattle.spec_calls.specs.Calls.{callOf}
-use Rattle.spec_notes.specs.Sections.{schedulerSection, threadsSection, semaphoresSection, eventsSection, messagesSection}
+use Rattle.spec_notes.specs.Sections.{schedulerSection, threadsSection, semaphoresSection, eventsSection}
+use Rattle.spec_notes.specs.Sections.{flagsSection, messagesSection}
 use Rattle.spec_notes.specs.Notes.{section, framed, sectionsOf, beforeLength, noteOf, leastNote}
 use Rattle.spec_notes.specs.Frames.{sections, isWhole, firstSection, behindSection, sectionsAt, areWhole, sectionBytes, framesOf}
 use Rattle.spec_notes.specs.Undo.{lastLength, hasLast, lastNote}
-use Rattle.spec_notes.proofs.EntriesShort.{scheduler-short, threads-below, semaphores-below, events-below, messages-below}
+use Rattle.spec_notes.proofs.EntriesShort.{scheduler-short, threads-below, semaphores-below, events-below, flags-below, messages-below}
 use Rattle.spec_notes.proofs.Lengths.{note-length}
 
 -- ---- one section
@@ -72,7 +73,8 @@ module _ (k : Kernel) (bytes : List ℕ) (k′ : Kernel) (h : length bytes ≡ 1
       (more {s = threadsSection k c k′} (omega (arith, threads-below k c k′))
       (more {s = semaphoresSection k c k′} (omega (arith, semaphores-below k c k′))
       (more {s = eventsSection k c k′} (omega (arith, events-below k c k′))
-      (more {s = messagesSection k c k′} (omega (arith, messages-below k c k′)) none))))
+      (more {s = flagsSection k c k′} (omega (arith, flags-below k c k′))
+      (more {s = messagesSection k c k′} (omega (arith, messages-below k c k′)) none)))))
 
   pub frames-back : framesOf (noteOf k bytes k′) ≡ sections (sectionsOf k (callOf bytes) k′)
   unfolding framesOf noteOf beforeLength
@@ -87,7 +89,8 @@ module _ (k : Kernel) (bytes : List ℕ) (k′ : Kernel) (h : length bytes ≡ 1
   note-sizes =
       let c = callOf bytes in
       let all = note-length k bytes k′ h in
-      omega (arith, scheduler-short k c k′, threads-below k c k′, semaphores-below k c k′, events-below k c k′, messages-below k c k′)
+      omega (arith, scheduler-short k c k′, threads-below k c k′, semaphores-below k c k′, events-below k c k′, flags-below k c k′,
+      messages-below k c k′)
 
   front-size : length (noteOf k bytes k′) ≡ length (beforeLength k bytes k′) + 2
   unfolding noteOf

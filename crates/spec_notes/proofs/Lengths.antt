@@ -1,4 +1,4 @@
--- The note of an accepted call has at most 96 + 24 T + 16 S + 16 M bytes.
+-- The note of an accepted call has at most 96 + 24 T + 16 S + 16 M + 8 F bytes.
 use Prim.Native.Nat.{ℕ, _+_, _-_, _*_, _≤_, _<_}
 use mathlib.Core.Path.{_≡_, refl, sym, ap, _∙_}
 use mathlib.Core.Bool.{Bool, true, false, cond, not, _&&_, and-false, or-false, false≢true, and-eq-true-iff}
@@ -36,14 +36,14 @@ use Rattle.spec_notes.specs.Touched.{youngerSemaphore, movesInPlace}
 use Rattle.spec_notes.specs.Touched.{touchedThread, touchedSemaphore, touchedEvent, touchedMessage}
 use Rattle.spec_notes.specs.Predicted.{predictedSemaphore}
 use Rattle.spec_notes.specs.Sections.{entriesFrom, threadEntry, semaphoreEntry, eventEntry, eventEntries, messageEntry}
-use Rattle.spec_notes.specs.Sections.{schedulerSection, threadsSection, semaphoresSection, eventsSection, messagesSection}
+use Rattle.spec_notes.specs.Sections.{schedulerSection, threadsSection, semaphoresSection, eventsSection, flagsSection, messagesSection}
 use Rattle.spec_notes.specs.Notes.{beforeLength, noteOf, leastNote}
 use Rattle.spec_notes.specs.Counts.{mostBytes}
 use Rattle.spec_notes.proofs.RecordsBack.{same-thread, same-semaphore}
-use Rattle.spec_notes.proofs.Counting.{countFrom, sameMessageRecord, threadsDiffer, semaphoresDiffer, messagesDiffer}
+use Rattle.spec_notes.proofs.Counting.{countFrom, sameMessageRecord, threadsDiffer, semaphoresDiffer, messagesDiffer, flagsDiffer}
 use Rattle.spec_notes.proofs.EntriesShort.{entries-short, entries-but-one, count-none}
 use Rattle.spec_notes.proofs.EntriesShort.{thread-entry, semaphore-entry, event-entry, message-entry-live, bit-short}
-use Rattle.spec_notes.proofs.EntriesShort.{entry-two, scheduler-short}
+use Rattle.spec_notes.proofs.EntriesShort.{entry-two, scheduler-short, flags-below}
 use Rattle.spec_notes.proofs.Slight.{Slight, row-same, effect-slight}
 use Rattle.spec_notes.proofs.TickSlight.{Aged, tick-threads, tick-semaphores}
 
@@ -225,8 +225,8 @@ module _ (k : Kernel) (bytes : List ℕ) (k′ : Kernel) where
   pub note-length : length bytes ≡ 16
       → length (noteOf k bytes k′)
       ≡ leastNote + length (schedulerSection k (callOf bytes) k′) + length (threadsSection k (callOf bytes) k′)
-      + length (semaphoresSection k (callOf bytes) k′) + length (eventsSection k (callOf bytes) k′) + length
-      (messagesSection k (callOf bytes) k′)
+      + length (semaphoresSection k (callOf bytes) k′) + length (eventsSection k (callOf bytes) k′)
+      + length (flagsSection k (callOf bytes) k′) + length (messagesSection k (callOf bytes) k′)
   unfolding noteOf beforeLength
   note-length e = simp (length-append, length-le) (omega arith)
 
@@ -250,7 +250,7 @@ module _ (k : Kernel) (c : Call) (S : Before k) (e : c .kind ≡ 1) where
 
 pub note-short : (k : Kernel) (bytes : List ℕ) → length bytes ≡ 16 → Sized k → Rules k → numberOf k (callOf bytes) ≡ 0
     → (let k′ = scheduled (effect k (callOf bytes)) in
-    length (noteOf k bytes k′) ≤ mostBytes (threadsDiffer k k′) (semaphoresDiffer k k′) (messagesDiffer k k′))
+    length (noteOf k bytes k′) ≤ mostBytes (threadsDiffer k k′) (semaphoresDiffer k k′) (messagesDiffer k k′) (flagsDiffer k k′))
 note-short k bytes b Z R h =
     let c = callOf bytes in
     let k′ : Kernel = scheduled (effect k c) in
@@ -260,6 +260,7 @@ note-short k bytes b Z R h =
     let whole = note-length k bytes k′ b in
     let scheduler = scheduler-short k c k′ in
     let events = events-short k c k′ L in
+    let flags = flags-below k c k′ in
     let messages = messages-short k c k′ L in
     cases (is c 1)
     (λ o. let e = eqb-true (c .kind) 1 o in

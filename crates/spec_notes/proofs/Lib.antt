@@ -5,7 +5,9 @@ pub mod EntriesShort
 pub mod RecordsBack
 pub mod RowsBack
 pub mod EventsBack
+pub mod FlagsBack
 pub mod Stays
+pub mod StaysAtFlags
 pub mod StaysAtMessages
 pub mod StaysAtWakings
 pub mod StaysAtObjects

@@ -22,7 +22,7 @@ use Rattle.spec_kernel.specs.Records.{thread, semaphore, event, message, noThre
 use Rattle.spec_moves.specs.Moves.{threadIn, relocate, repost}
 use Rattle.spec_moves.specs.Standing.{messageIn}
 use Rattle.spec_rules.proofs.OfRecords.{live-or-not}
-use Rattle.spec_moves.specs.States.{withThreads, withPosts, withSemaphore, withEvents, withScheduler, moveThread, moveMessage}
+use Rattle.spec_moves.specs.States.{withThreads, withPosts, withSemaphore, withEvents, withFlags, withScheduler, moveThread, moveMessage}
 use Rattle.proof_rules.proofs.Core.{Fits, untrue, live-thread, live-semaphore, condition-of}
 use Rattle.proof_rules.proofs.Ends.{sized, Before}
 use Rattle.proof_rules.proofs.Steps.{ready-live}
@@ -49,6 +49,7 @@ pub record Limits (k : Kernel) : Type 0 where
   pub events : (i : ℕ) → SmallEvent (event k i)
   pub messages : (m : ℕ) → SmallMessage (message k m)
   pub bits : k .bits < 4294967296
+  pub flags : k .flags < 65536
   pub scheduler : (k .uptime < 4294967296) × (k .unscheduled < 256) × (k .critical < 256)
 
 pub within-limits : {k : Kernel} → Within k → Limits k
@@ -58,6 +59,7 @@ within-limits W = record {
   events = λ i. (W .mask i, W .values i);
   messages = λ m. (W .kind m, W .size m, W .address m);
   bits = W .bits;
+  flags = W .flags;
   scheduler = (W .uptime, W .unscheduled, W .critical);
 }
 
@@ -109,6 +111,7 @@ module _ {k : Kernel} (B : Before k) (L : Limits k) where
         unscheduled = L .scheduler .1;
         critical = L .scheduler .2;
         runner = runner-small;
+        flags = L .flags;
       }
 
 -- ---- a part is put anew
@@ -129,6 +132,7 @@ module _ {k : Kernel} (L : Limits k) where
     events = L .events;
     messages = L .messages;
     bits = L .bits;
+    flags = L .flags;
     scheduler = L .scheduler;
   }
 
@@ -139,6 +143,7 @@ module _ {k : Kernel} (L : Limits k) where
     events = L .events;
     messages = f;
     bits = L .bits;
+    flags = L .flags;
     scheduler = L .scheduler;
   }
 
@@ -149,6 +154,7 @@ module _ {k : Kernel} (L : Limits k) where
     events = L .events;
     messages = L .messages;
     bits = L .bits;
+    flags = L .flags;
     scheduler = L .scheduler;
   }
 
@@ -160,6 +166,18 @@ module _ {k : Kernel} (L : Limits k) where
     events = f;
     messages = L .messages;
     bits = b;
+    flags = L .flags;
+    scheduler = L .scheduler;
+  }
+
+  pub flags-limits : (flags : ℕ) → flags < 65536 → Limits (withFlags flags k)
+  flags-limits flags b = record {
+    threads = L .threads;
+    semaphores = L .semaphores;
+    events = L .events;
+    messages = L .messages;
+    bits = L .bits;
+    flags = b;
     scheduler = L .scheduler;
   }
 
@@ -174,6 +192,7 @@ module _ {k : Kernel} (L : Limits k) where
     events = L .events;
     messages = L .messages;
     bits = L .bits;
+    flags = L .flags;
     scheduler = (a, b, c);
   }
 

@@ -56,7 +56,8 @@ condition-back (ForFlag i) h = rw (mod-eq-of-lt h)
 abbrev anyCondition : ℕ → ℕ → Condition
 anyCondition code what =
     cond (eqb code 2) Asleep
-    (cond (eqb code 3) (ForSemaphore what) (cond (eqb code 4) (ForEvent what) (cond (eqb code 5) (ForMessage what) Ready)))
+    (cond (eqb code 3) (ForSemaphore what)
+    (cond (eqb code 4) (ForEvent what) (cond (eqb code 5) (ForMessage what) (cond (eqb code 6) (ForFlag what) Ready))))
 
 any-back : (c : Condition) → anyCondition (conditionCode c) (conditionData c) ≡ c
 any-back Ready = refl
@@ -72,6 +73,7 @@ wake-back Wake.None = refl
 wake-back Wake.Met = refl
 wake-back (Wake.TimedOut Object.Semaphore) = refl
 wake-back (Wake.TimedOut Object.Event) = refl
+wake-back (Wake.TimedOut Object.Flag) = refl
 wake-back (Wake.TimedOut Object.Message) = refl
 
 flag-back : (b : Bool) → not (eqb (one b) 0) ≡ b
@@ -120,12 +122,12 @@ by-back f z r place due D b =
 
 -- the thread of its full code and its row
 abbrev conditionPart : ℕ → ℕ
-conditionPart code = cond (ltb code 6) code (code - 5)
+conditionPart code = cond (ltb code 7) code (code - 6)
 
 abbrev fullThread : List ℕ → Thread
 fullThread row =
     record {
-      live = ltb (getD row 0 0) 6;
+      live = ltb (getD row 0 0) 7;
       priority = getD row 1 0;
       first = getD row 2 0;
       condition = anyCondition (conditionPart (getD row 0 0)) (getD row 3 0);
@@ -135,7 +137,7 @@ fullThread row =
     }
 
 code-back : (live : Bool) (c : Condition)
-    → (ltb (codeFor live c) 6 ≡ live) × (anyCondition (conditionPart (codeFor live c)) (conditionData c) ≡ c)
+    → (ltb (codeFor live c) 7 ≡ live) × (anyCondition (conditionPart (codeFor live c)) (conditionData c) ≡ c)
 code-back true Ready = (refl, refl)
 code-back true Asleep = (refl, refl)
 code-back true (ForSemaphore i) = (refl, refl)
@@ -150,13 +152,13 @@ code-back false (ForMessage mask) = (refl, refl)
 code-back false (ForFlag i) = (refl, refl)
 
 -- one full code has one code
-shown : (live : Bool) (c : Condition) → cond live (conditionCode c) 0 ≡ cond (ltb (codeFor live c) 6) (codeFor live c) 0
+shown : (live : Bool) (c : Condition) → cond live (conditionCode c) 0 ≡ cond (ltb (codeFor live c) 7) (codeFor live c) 0
 shown true c = rw (code-back true c .0)
 shown false c = rw (code-back false c .0)
 
 pub full-code : (r s : Thread) → fullCode r ≡ fullCode s → threadCode r ≡ threadCode s
 full-code r s e =
-    shown (r .live) (r .condition) ∙ ap (λ (n : ℕ). cond (ltb n 6) n 0) e ∙ sym (shown (s .live) (s .condition))
+    shown (r .live) (r .condition) ∙ ap (λ (n : ℕ). cond (ltb n 7) n 0) e ∙ sym (shown (s .live) (s .condition))
 
 full-back : (r : Thread) → fullThread (fullCode r ∷ threadRow r 0 0) ≡ r
 full-back r =

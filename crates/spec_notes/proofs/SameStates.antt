@@ -90,6 +90,7 @@ same-kernel k u h =
       unscheduled = getD (numbers i) 2 0;
       critical = getD (numbers i) 3 0;
       runner = getD (numbers i) 4 0;
+      flags = getD (numbers i) 5 0;
     }
 
 -- whatever the two states hold

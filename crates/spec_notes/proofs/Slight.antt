@@ -34,6 +34,7 @@ use Rattle.spec_regions.specs.Regions.{pushUnscheduled, popUnscheduled, popAllU
 use Rattle.spec_semaphores.specs.Semaphores.{postTo, post, createSemaphore, destroySemaphore, makePeriodic, removePeriodic}
 use Rattle.spec_semaphores.specs.Semaphores.{pendSemaphore, postSemaphore}
 use Rattle.spec_events.specs.Events.{workedOut, loadEvent, pendEvent, setBit, clearBit}
+use Rattle.spec_flags.specs.Flags.{createFlag, destroyFlag, pendFlag, postFlag}
 use Rattle.spec_messages.specs.Messages.{createMessage, destroyMessage, handOver, postMessage, receive, pendMessage}
 use Rattle.spec_time.specs.Time.{pulse, pulseFrom, tick}
 use Rattle.spec_effects.specs.Effects.{effect}
@@ -203,6 +204,7 @@ module _ {k : Kernel} (B : Before k) {c : Call} (A : Accepted k c) where
   pub effect-slight : Slight k c (effect k c)
   unfolding createThread setPriority resetPriority yielded sleep block pushUnscheduled popUnscheduled popAllUnscheduled
       pushCritical popCritical popAllCritical createSemaphore destroySemaphore makePeriodic removePeriodic setBit clearBit workedOut
+      createFlag destroyFlag pendFlag postFlag
   effect-slight =
       effect-of A (Slight k c) λ kind-0.
       kind-0
@@ -236,4 +238,8 @@ module _ {k : Kernel} (B : Before k) {c : Call} (A : Accepted k c) where
       ▸ kind-19  -- 28
       ▸ quiet _ refl refl  -- 29
       ▸ quiet _ refl refl  -- 30
+      ▸ quiet _ refl refl  -- 31
+      ▸ quiet _ refl refl  -- 32
+      ▸ quiet _ refl refl  -- 33
+      ▸ quiet _ refl refl  -- 34
       ▸ end

@@ -39,7 +39,8 @@ use Rattle.spec_notes.specs.Rows.{conditionCode, threadCode, fullCode}
 use Rattle.spec_notes.specs.Touched.{sameThread, youngerThread, movesInPlace, touchedThread, touchedMessage}
 use Rattle.spec_notes.proofs.RecordsBack.{full-code}
 use Rattle.spec_notes.specs.Back.{earlier}
-use Rattle.spec_notes.specs.LeftAlone.{otherWay}
+use Rattle.spec_notes.specs.Predicted.{predictedFlags}
+use Rattle.spec_notes.specs.LeftAlone.{otherWay, FlagsTold}
 
 -- ---- what stays
 -- a test that sees nobody move
@@ -64,12 +65,22 @@ pub record Left (k : Kernel) (c : Call) (u : Kernel) : Type 0 where
   pub threads : ThreadsStay k c u
   pub posts : PostsStay k c u
   pub bits : AtMost (c .a) (k .bits) (u .bits)
+  pub flags : FlagsTold c (k .flags) (u .flags)
   pub uptime : k .uptime ≡ earlier c (u .uptime)
 
--- of a kind n other than the tick, which leaves the bits
-pub quiet : {k : Kernel} {c : Call} {u : Kernel} {n : ℕ} → eqb n 1 ≡ false → (k .bits ≡ u .bits) × (k .uptime ≡ u .uptime)
-    → ThreadsStay k c u → PostsStay k c u → c .kind ≡ n → Left k c u
-quiet o b T P e = record { threads = T; posts = P; bits = inl (b .0); uptime = rw (e, o) (b .1) }
+-- a kind that tells neither of the uptime nor of the flags before: all but the tick and the destruction of a flag
+abbrev pub tellsNothing : ℕ → Type 0
+tellsNothing n = (eqb n 1 ≡ false) × (eqb n 32 ≡ false)
+
+pub flags-stay : (c : Call) {n old new : ℕ} → c .kind ≡ n → eqb n 32 ≡ false → old ≡ new → FlagsTold c old new
+unfolding predictedFlags
+flags-stay c e o h = inl (rw (e, o) h)
+
+-- of such a kind n, which leaves bits and flags
+pub quiet : {k : Kernel} {c : Call} {u : Kernel} {n : ℕ} → tellsNothing n
+    → (k .bits ≡ u .bits) × (k .uptime ≡ u .uptime) × (k .flags ≡ u .flags) → ThreadsStay k c u → PostsStay k c u → c .kind ≡ n → Left k c u
+quiet {c} o b T P e =
+    record { threads = T; posts = P; bits = inl (b .0); flags = flags-stay c e (o .1) (b .2); uptime = rw (e, o .0) (b .1) }
 
 -- ---- a thread's code tells whether it is live and ready
 condition-code : (c : Condition)
@@ -144,7 +155,7 @@ file-stays k c m r h =
 -- ---- the kinds
 module _ {k : Kernel} (B : Before k) {c : Call} (A : Accepted k c) where
   -- the caller blocks
-  pub block-left : {n : ℕ} → eqb n 1 ≡ false → fromThread c ≡ true → (condition : Condition) (timeout : ℕ) → readyFor condition ≡ false
+  pub block-left : {n : ℕ} → tellsNothing n → fromThread c ≡ true → (condition : Condition) (timeout : ℕ) → readyFor condition ≡ false
       → c .kind ≡ n → Left k c (block condition timeout k)
   unfolding block
   block-left o f condition timeout h e =
@@ -152,7 +163,7 @@ module _ {k : Kernel} (B : Before k) {c : Call} (A : Accepted k c) where
       let r : Thread = blocked condition timeout s in
       let ready = caller-ready B A f in
       let l = ready-live s ready in
-      quiet o (refl, refl)
+      quiet o (refl, refl, refl)
       (code-stays k c (k .runner) r (B .core .standing .count) (λ z. omega (arith, up-code s (rw l at ready), down-code r l h))) refl e
 
   pub kind-2 : c .kind ≡ 2 → Left k c (createThread k c)
@@ -160,21 +171,21 @@ module _ {k : Kernel} (B : Before k) {c : Call} (A : Accepted k c) where
   kind-2 e =
       let t = freeThread k in
       let (_, dead) = free-id (λ r. r .live) noThread (k .threads) (simp (e, or-false) at (A .free)) in
-      quiet refl (refl, refl)
+      quiet (refl, refl) (refl, refl, refl)
       (code-stays k c t (born (c .a)) (B .core .standing .count) (λ z. omega (arith, dead-code (thread k t) dead))) refl e
 
   pub kind-4 : c .kind ≡ 4 → Left k c (setPriority k c)
   unfolding setPriority
-  kind-4 e = quiet refl (refl, refl) (place-in-place k c (c .a) _ (rw (e, same))) refl e
+  kind-4 e = quiet (refl, refl) (refl, refl, refl) (place-in-place k c (c .a) _ (rw (e, same))) refl e
 
   pub kind-5 : c .kind ≡ 5 → Left k c (resetPriority k c)
   unfolding resetPriority
-  kind-5 e = quiet refl (refl, refl) (place-in-place k c (c .a) _ (rw (e, same))) refl e
+  kind-5 e = quiet (refl, refl) (refl, refl, refl) (place-in-place k c (c .a) _ (rw (e, same))) refl e
 
   pub kind-6 : c .kind ≡ 6 → Left k c (yielded k c)
   unfolding yielded
-  kind-6 e = quiet refl (refl, refl) (place-in-place k c (k .runner) _ (rw (e, same))) refl e
+  kind-6 e = quiet (refl, refl) (refl, refl, refl) (place-in-place k c (k .runner) _ (rw (e, same))) refl e
 
   pub kind-7 : c .kind ≡ 7 → Left k c (sleep k c)
   unfolding sleep fromThread kindOf
-  kind-7 e = block-left refl (rw e) Asleep (c .c) refl e
+  kind-7 e = block-left (refl, refl) (rw e) Asleep (c .c) refl e

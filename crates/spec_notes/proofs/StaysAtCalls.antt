@@ -17,6 +17,7 @@ use Rattle.spec_notes.specs.Within.{Within, CallWithin}
 use Rattle.spec_notes.specs.LeftAlone.{LeftAlone}
 use Rattle.spec_notes.proofs.Stays.{Left, quiet, kind-2, kind-4, kind-5, kind-6, kind-7}
 use Rattle.spec_notes.proofs.StaysAtObjects.{kind-18, kind-19, kind-20, kind-21, kind-28, set-left, clear-left}
+use Rattle.spec_notes.proofs.StaysAtFlags.{kind-31, kind-32, kind-33, kind-34}
 use Rattle.spec_notes.proofs.StaysAtTicks.{kind-1}
 use Rattle.spec_notes.proofs.StaysAtMessages.{kind-3, kind-24, kind-25, kind-26, kind-27}
 
@@ -34,29 +35,33 @@ effect-left {k} {c} B A =
     ▸ kind-5 B A
     ▸ kind-6 B A
     ▸ kind-7 B A
-    ▸ quiet refl (refl, refl) (refl, refl) refl  -- 8
-    ▸ quiet refl (refl, refl) (refl, refl) refl  -- 9
-    ▸ quiet refl (refl, refl) (refl, refl) refl  -- 10
-    ▸ quiet refl (refl, refl) (refl, refl) refl  -- 11
-    ▸ quiet refl (refl, refl) (refl, refl) refl  -- 12
-    ▸ quiet refl (refl, refl) (refl, refl) refl  -- 13
-    ▸ quiet refl (refl, refl) (refl, refl) refl  -- 14
-    ▸ quiet refl (refl, refl) (refl, refl) refl  -- 15
-    ▸ quiet refl (refl, refl) (refl, refl) refl  -- 16
-    ▸ quiet refl (refl, refl) (refl, refl) refl  -- 17
+    ▸ quiet (refl, refl) (refl, refl, refl) (refl, refl) refl  -- 8
+    ▸ quiet (refl, refl) (refl, refl, refl) (refl, refl) refl  -- 9
+    ▸ quiet (refl, refl) (refl, refl, refl) (refl, refl) refl  -- 10
+    ▸ quiet (refl, refl) (refl, refl, refl) (refl, refl) refl  -- 11
+    ▸ quiet (refl, refl) (refl, refl, refl) (refl, refl) refl  -- 12
+    ▸ quiet (refl, refl) (refl, refl, refl) (refl, refl) refl  -- 13
+    ▸ quiet (refl, refl) (refl, refl, refl) (refl, refl) refl  -- 14
+    ▸ quiet (refl, refl) (refl, refl, refl) (refl, refl) refl  -- 15
+    ▸ quiet (refl, refl) (refl, refl, refl) (refl, refl) refl  -- 16
+    ▸ quiet (refl, refl) (refl, refl, refl) (refl, refl) refl  -- 17
     ▸ kind-18 B A
     ▸ kind-19 B A
     ▸ kind-20 B A
     ▸ kind-21 B A
-    ▸ set-left B A refl  -- 22
-    ▸ clear-left B A refl  -- 23
+    ▸ set-left B A (refl, refl)  -- 22
+    ▸ clear-left B A (refl, refl)  -- 23
     ▸ kind-24 B A
     ▸ kind-25 B A
     ▸ kind-26 B A
     ▸ kind-27 B A
     ▸ kind-28 B A
-    ▸ set-left B A refl  -- 29
-    ▸ clear-left B A refl  -- 30
+    ▸ set-left B A (refl, refl)  -- 29
+    ▸ clear-left B A (refl, refl)  -- 30
+    ▸ kind-31 B A
+    ▸ kind-32 B A
+    ▸ kind-33 B A
+    ▸ kind-34 B A
     ▸ end
 
 pub call-leaves : (k : Kernel) (c : Call) → Sized k → Rules k → Within k → CallWithin c → numberOf k c ≡ 0
@@ -74,5 +79,6 @@ call-leaves k c Z R _ _ h =
       time = L .threads .1;
       posted = L .posts;
       bits = L .bits;
+      flags = L .flags;
       uptime = L .uptime;
     }

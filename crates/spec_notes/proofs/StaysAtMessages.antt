@@ -99,7 +99,7 @@ module _ {k : Kernel} (B : Before k) {c : Call} (A : Accepted k c) where
   unfolding destroyThread freeMessages touchedThread touchedMessage
   kind-3 e =
       let l = thread-named A e refl in
-      quiet refl (refl, refl)
+      quiet (refl, refl) (refl, refl, refl)
       (code-stays k c (c .a) noThread (B .core .standing .count) (λ z. omega (arith, live-code (thread k (c .a)) l)))
       (free-stays k c (c .a)) e
 
@@ -114,13 +114,13 @@ module _ {k : Kernel} (B : Before k) {c : Call} (A : Accepted k c) where
   kind-24 e =
       let m = freeMessage k in
       let (_, dead) = free-id (λ r. r .live) noMessage (k .messages) (simp (e, or-false) at (A .free)) in
-      quiet refl (refl, refl) (refl, refl) (file-differs m _ 0 (rw dead (λ z. omega arith))) e
+      quiet (refl, refl) (refl, refl, refl) (refl, refl) (file-differs m _ 0 (rw dead (λ z. omega arith))) e
 
   pub kind-25 : c .kind ≡ 25 → Left k c (destroyMessage k c)
   unfolding destroyMessage
   kind-25 e =
       let l = message-named A e refl in
-      quiet refl (refl, refl) (refl, refl) (file-differs (c .a) noMessage 0 (rw l (λ z. omega arith))) e
+      quiet (refl, refl) (refl, refl, refl) (refl, refl) (file-differs (c .a) noMessage 0 (rw l (λ z. omega arith))) e
 
   -- the recipient that awaits the channel wakes, and the message has another owner; else it has a channel
   pub kind-26 : c .kind ≡ 26 → Left k c (postMessage k c)
@@ -141,10 +141,10 @@ module _ {k : Kernel} (B : Before k) {c : Call} (A : Accepted k c) where
       (λ h. let down = awaits-down (thread k (c .b) .condition) (c .c) h in
       let r : Thread = awake Wake.Met (c .a) (thread k (c .b)) in
       rw h
-      (quiet refl (refl, refl)
+      (quiet (refl, refl) (refl, refl, refl)
       (code-stays k c (c .b) r (B .core .standing .count) (λ z. omega (arith, down-code (thread k (c .b)) l down, up-code r refl)))
       (file-differs (c .a) _ 1 (λ z. false≢true (sym down ∙ (rw (sym own ∙ z) at up)))) e))
-      (λ h. rw h (quiet refl (refl, refl) (refl, refl) (file-differs (c .a) _ 6 (λ z. omega arith)) e)))
+      (λ h. rw h (quiet (refl, refl) (refl, refl, refl) (refl, refl) (file-differs (c .a) _ 6 (λ z. omega arith)) e)))
 
   -- the caller blocks, or takes a message off its channel
   pub kind-27 : c .kind ≡ 27 → Left k c (pendMessage k c)
@@ -153,8 +153,8 @@ module _ {k : Kernel} (B : Before k) {c : Call} (A : Accepted k c) where
       let m = nextMessage k (c .b) in
       let mine : ℕ → Bool = λ x. isFor (k .runner) (c .b) (message k x) in
       cases (eqb m 255)
-      (λ h. rw h (block-left B A refl (rw e) (ForMessage (c .b)) (c .c) refl e))
+      (λ h. rw h (block-left B A (refl, refl) (rw e) (ForMessage (c .b)) (c .c) refl e))
       (λ h. let (f, _) = kept mine (items (k .posted)) (first-member (keep mine (items (k .posted))) (eqb-false m 255 h)) in
       let (_, masked) = and-eq-true-iff (eqb (message k m .owner) (k .runner)) (masks (c .b) (message k m .channel)) .0 f in
       let (queued, _) = and-eq-true-iff (ltb 0 (message k m .channel)) _ .0 masked in
-      rw h (quiet refl (refl, refl) (refl, refl) (file-differs m _ 6 (λ z. omega (arith, ltb-true 0 (message k m .channel) queued))) e))
+      rw h (quiet (refl, refl) (refl, refl, refl) (refl, refl) (file-differs m _ 6 (λ z. omega (arith, ltb-true 0 (message k m .channel) queued))) e))

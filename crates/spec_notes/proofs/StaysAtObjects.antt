@@ -34,7 +34,7 @@ use Rattle.proof_rules.proofs.Core.{live-semaphore}
 use Rattle.proof_rules.proofs.Ends.{sized, Before}
 use Rattle.proof_rules.proofs.Accepted.{Accepted, semaphore-named}
 use Rattle.spec_notes.specs.Touched.{touchedMessage}
-use Rattle.spec_notes.proofs.Stays.{PostsStay, AtMost, Left, quiet, block-left}
+use Rattle.spec_notes.proofs.Stays.{PostsStay, AtMost, Left, tellsNothing, flags-stay, quiet, block-left}
 use Rattle.spec_notes.proofs.StaysAtWakings.{Wakes, none-wakes, then-wakes, wakes-stay, one-wakes, outs-wake}
 
 -- ---- from k to u threads wake, and but for semaphores nothing else happens
@@ -42,6 +42,7 @@ pub record Woke (k u : Kernel) : Type 0 where
   pub threads : Wakes (threadsOf k) (threadsOf u)
   pub posted : k .posted ≡ u .posted
   pub bits : k .bits ≡ u .bits
+  pub flags : k .flags ≡ u .flags
   pub uptime : k .uptime ≡ u .uptime
 
 -- the channels are as they were
@@ -50,7 +51,7 @@ posted-stay k c u e = ap (λ (q : Queue). keep (λ m. not (touchedMessage k c u 
 
 -- a semaphore gets a record
 pub semaphore-woke : {k u : Kernel} → Woke k u → (i : ℕ) (s : Semaphore) → Woke k (withSemaphore i s u)
-semaphore-woke W i s = record { threads = W .threads; posted = W .posted; bits = W .bits; uptime = W .uptime }
+semaphore-woke W i s = record { threads = W .threads; posted = W .posted; bits = W .bits; flags = W .flags; uptime = W .uptime }
 
 -- a semaphore is posted: its first waiter wakes, or it gets a record
 pub post-woke : {k u : Kernel} → Woke k u → (i : ℕ) → i < semaphoreCount → Woke k (post i u)
@@ -66,6 +67,7 @@ post-woke {k} {u} W i b = go (semaphoreQueue u i) refl
           (rw e (count-head t q)));
       posted = W .posted;
       bits = W .bits;
+      flags = W .flags;
       uptime = W .uptime;
     }
 
@@ -89,35 +91,36 @@ module _ {k : Kernel} (B : Before k) {c : Call} (A : Accepted k c) where
     threads = none-wakes (B .core .standing) (sized (B .core) .priorities);
     posted = refl;
     bits = refl;
+    flags = refl;
     uptime = refl;
   }
 
-  post-left : {n : ℕ} → eqb n 1 ≡ false → semaphore k (c .a) .live ≡ true → c .kind ≡ n → Left k c (postSemaphore k c)
+  post-left : {n : ℕ} → tellsNothing n → semaphore k (c .a) .live ≡ true → c .kind ≡ n → Left k c (postSemaphore k c)
   unfolding postSemaphore
   post-left o l e =
       let W = post-woke none-woke (c .a) (live-semaphore (B .core) (c .a) l) in
-      quiet o (W .bits, W .uptime) (wakes-stay (B .core) c (post (c .a) k) (W .threads)) (posted-stay k c (post (c .a) k) (W .posted)) e
+      quiet o (W .bits, W .uptime, W .flags) (wakes-stay (B .core) c (post (c .a) k) (W .threads)) (posted-stay k c (post (c .a) k) (W .posted)) e
 
   pub kind-19 : c .kind ≡ 19 → Left k c (postSemaphore k c)
-  kind-19 e = post-left refl (semaphore-named A e refl) e
+  kind-19 e = post-left (refl, refl) (semaphore-named A e refl) e
 
   pub kind-28 : c .kind ≡ 28 → Left k c (postSemaphore k c)
-  kind-28 e = post-left refl (semaphore-named A e refl) e
+  kind-28 e = post-left (refl, refl) (semaphore-named A e refl) e
 
   pub kind-18 : c .kind ≡ 18 → Left k c (pendSemaphore k c)
   unfolding pendSemaphore fromThread kindOf
   kind-18 e =
-      cases (ltb 0 (semaphore k (c .a) .count)) (λ h. rw h (quiet refl (refl, refl) (refl, refl) refl e))
-      (λ h. rw h (block-left B A refl (rw e) (ForSemaphore (c .a)) (c .c) refl e))
+      cases (ltb 0 (semaphore k (c .a) .count)) (λ h. rw h (quiet (refl, refl) (refl, refl, refl) (refl, refl) refl e))
+      (λ h. rw h (block-left B A (refl, refl) (rw e) (ForSemaphore (c .a)) (c .c) refl e))
 
   pub kind-21 : c .kind ≡ 21 → Left k c (pendEvent k c)
   unfolding pendEvent fromThread kindOf
   kind-21 e =
-      cases (isTrue (k .bits) (event k (c .a))) (λ h. rw h (quiet refl (refl, refl) (refl, refl) refl e))
-      (λ h. rw h (block-left B A refl (rw e) (ForEvent (c .a)) (c .c) refl e))
+      cases (isTrue (k .bits) (event k (c .a))) (λ h. rw h (quiet (refl, refl) (refl, refl, refl) (refl, refl) refl e))
+      (λ h. rw h (block-left B A (refl, refl) (rw e) (ForEvent (c .a)) (c .c) refl e))
 
   -- other events and bits are worked out
-  worked-left : {n : ℕ} → eqb n 1 ≡ false → c .kind ≡ n → (l : List Event) (bits : ℕ) → AtMost (c .a) (k .bits) bits
+  worked-left : {n : ℕ} → tellsNothing n → c .kind ≡ n → (l : List Event) (bits : ℕ) → AtMost (c .a) (k .bits) bits
       → Left k c (workedOut (withEvents l bits k))
   unfolding workedOut
   worked-left o e l bits d = record {
@@ -126,18 +129,19 @@ module _ {k : Kernel} (B : Before k) {c : Call} (A : Accepted k c) where
         (outs-wake l bits 0 eventCount (omega arith) (B .core .standing) (sized (B .core) .priorities));
     posts = refl;
     bits = d;
-    uptime = rw (e, o);
+    flags = flags-stay c e (o .1) refl;
+    uptime = rw (e, o .0);
   }
 
   pub kind-20 : c .kind ≡ 20 → Left k c (loadEvent k c)
   unfolding loadEvent
-  kind-20 e = worked-left refl e _ (k .bits) (inl refl)
+  kind-20 e = worked-left (refl, refl) e _ (k .bits) (inl refl)
 
   -- kinds 22 and 29, 23 and 30
-  pub set-left : {n : ℕ} → eqb n 1 ≡ false → c .kind ≡ n → Left k c (setBit k c)
+  pub set-left : {n : ℕ} → tellsNothing n → c .kind ≡ n → Left k c (setBit k c)
   unfolding setBit
   set-left o e = worked-left o e (k .events) (withBit (k .bits) (c .a)) (set-differs (k .bits) (c .a))
 
-  pub clear-left : {n : ℕ} → eqb n 1 ≡ false → c .kind ≡ n → Left k c (clearBit k c)
+  pub clear-left : {n : ℕ} → tellsNothing n → c .kind ≡ n → Left k c (clearBit k c)
   unfolding clearBit
   clear-left o e = worked-left o e (k .events) (withoutBit (k .bits) (c .a)) (clear-differs (k .bits) (c .a))

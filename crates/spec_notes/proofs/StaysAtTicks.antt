@@ -25,7 +25,7 @@ use Rattle.proof_rules.proofs.Ends.{sized, Before}
 use Rattle.proof_rules.proofs.Accepted.{Accepted}
 use Rattle.proof_rules.proofs.Wakings.{asDue, due-standing, due-woken, aged-record, passes-standing}
 use Rattle.spec_notes.specs.Back.{earlier}
-use Rattle.spec_notes.proofs.Stays.{Left, up}
+use Rattle.spec_notes.proofs.Stays.{Left, up, flags-stay}
 use Rattle.spec_notes.proofs.StaysAtWakings.{Wakes, none-wakes, then-wakes, wakes-stay, called-wakes, each-keeps}
 use Rattle.spec_notes.proofs.StaysAtObjects.{Woke, posted-stay, semaphore-woke, post-woke}
 
@@ -88,11 +88,12 @@ kind-1 {k} B {c} A e =
     let v : Kernel = withThreads (timePasses (threadsOf k)) (withUptime (later (k .uptime)) k) in
     let P = passes-wake (B .core) in
     let W : Woke v (pulseFrom 0 semaphoreCount v) =
-    pulses-woke (record { threads = none-wakes (P .standing) (P .small); posted = refl; bits = refl; uptime = refl })
+    pulses-woke (record { threads = none-wakes (P .standing) (P .small); posted = refl; bits = refl; flags = refl; uptime = refl })
     0 semaphoreCount (omega arith) in
     record {
       threads = wakes-stay (B .core) c (pulseFrom 0 semaphoreCount v) (then-wakes P (W .threads));
       posts = posted-stay k c (pulseFrom 0 semaphoreCount v) (W .posted);
       bits = inl (W .bits);
+      flags = flags-stay c e refl (W .flags);
       uptime = earlier-later c e (k .uptime) ∙ ap (earlier c) (W .uptime);
     }

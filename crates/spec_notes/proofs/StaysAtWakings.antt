@@ -129,7 +129,7 @@ module _ {p : Threads} (S : Standing p) (s : Small p) (h : ℕ) (a : 256 ≤ h) 
   member-lives t m = kept lives (items (p .places)) m .0
 
   -- all of it
-  line-wakes : Wakes p (wokenIn h p)
+  pub line-wakes : Wakes p (wokenIn h p)
   unfolding wokenIn wakeIn
   line-wakes =
       called-wakes asMet s (line-standing S h) lives lives-down (line-woken S h (λ z. omega arith))

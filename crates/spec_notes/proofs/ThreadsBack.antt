@@ -40,11 +40,12 @@ use Rattle.spec_notes.proofs.RecordsBack.{ByteId, Dead, thread-back, sa
 use Rattle.spec_notes.proofs.EntriesBack.{getD-map, each, read-part, records-back}
 use Rattle.spec_notes.proofs.TablesBack.{place-below, table-back}
 
-pub wake-small : (w : Wake) → wakeCode w < 5
+pub wake-small : (w : Wake) → wakeCode w < 6
 wake-small Wake.None = omega arith
 wake-small Wake.Met = omega arith
 wake-small (Wake.TimedOut Object.Semaphore) = omega arith
 wake-small (Wake.TimedOut Object.Event) = omega arith
+wake-small (Wake.TimedOut Object.Flag) = omega arith
 wake-small (Wake.TimedOut Object.Message) = omega arith
 
 pub wake-below : (w : Wake) → wakeCode w < 256

@@ -1,7 +1,7 @@
 -- An undo is accepted exactly where an earlier state and a call lead to this end state with this note [01, table: number 15].
 use Prim.Native.Nat.{ℕ, zero, suc, _+_, _-_, _≤_, _<_}
 use mathlib.Core.Path.{_≡_, sym, ap, _∙_}
-use mathlib.Core.Bool.{Bool, true, false, cond, and-true, and-eq-true-iff}
+use mathlib.Core.Bool.{Bool, true, false, cond, _&&_, and-true, and-eq-true-iff}
 use mathlib.Core.List.{List, []}
 use mathlib.Core.Logic.{_↔_}
 use native.Mathlib.Omega.{arith}
@@ -11,9 +11,11 @@ use lib.Seq.{length-take-le}
 use borrow.Author.Tests.{eqb-true, eq-eqb, ltb-true, lt-ltb, leb-true}
 use borrow.Table.Steps.{cases}
 use Rattle.base_bits.specs.Words.{bitAt}
-use Rattle.base_bits.proofs.Laws.{with-small, without-small}
+use Rattle.base_bits.proofs.Laws.{with-small, with-below, without-small}
 use Rattle.base_bytes.specs.Bytes.{un}
+use Rattle.base_queue.specs.Lists.{isEmpty}
 use Rattle.spec_kernel.specs.declared.records.Kernel.{Kernel}
+use Rattle.spec_kernel.specs.Sizes.{flagCount}
 use Rattle.spec_rules.specs.Rules.{Sized, Rules}
 use Rattle.spec_rules.proofs.Exactly.{rules-mean, rules-hold}
 use Rattle.spec_calls.specs.declared.call.Call.{Call}
@@ -23,8 +25,9 @@ use Rattle.spec_moves.specs.States.{scheduled}
 use Rattle.spec_effects.specs.Effects.{effect}
 use Rattle.proof_rules.proofs.Ends.{before}
 use Rattle.spec_effects.proofs.RulesKept.{rules-kept}
-use Rattle.spec_notes.specs.Notes.{sectionCount, threadsIn, semaphoresIn, eventsIn, messagesIn, noteOf, leastNote}
-use Rattle.spec_notes.specs.Back.{bitChanged, bitsBefore, earlier, threadsBack, postsBack, beforeAt, stateBefore}
+use Rattle.spec_notes.specs.Notes.{sectionCount, threadsIn, semaphoresIn, eventsIn, flagsIn, messagesIn, noteOf, leastNote}
+use Rattle.spec_notes.specs.Predicted.{predictedFlags}
+use Rattle.spec_notes.specs.Back.{bitChanged, bitsBefore, flagsBefore, earlier, threadsBack, postsBack, beforeAt, stateBefore}
 use Rattle.spec_notes.specs.Within.{Within}
 use Rattle.spec_notes.specs.Frames.{nothing, sections, firstSection, behindSection}
 use Rattle.spec_notes.specs.Frames.{sectionsAt, areWhole, sectionBytes, framesOf, sectionsIn}
@@ -89,6 +92,16 @@ module _ (c : Call) (k′ : Kernel) (x : List (List ℕ)) (Z : Sized k′) (W : 
       (c .a) (W .bits)))))
       (λ e. rw e (W .bits))
 
+  flags-small : flagsBefore c (k′ .flags) (flagsIn x) < 65536
+  unfolding flagsBefore predictedFlags
+  flags-small =
+      let b : predictedFlags c (k′ .flags) < 65536 =
+      cases (is c 32 && ltb (c .a) flagCount)
+      (λ e. let a = ltb-true (c .a) flagCount (and-eq-true-iff (is c 32) (ltb (c .a) flagCount) .0 e .1) in
+      rw e (with-below (k′ .flags) (c .a) {n = flagCount} a (W .flags)))
+      (λ e. rw e (W .flags)) in
+      cases (isEmpty (flagsIn x)) (λ e. rw e b) (λ e. rw e (without-small (predictedFlags c (k′ .flags)) _ b))
+
   earlier-small : earlier c (k′ .uptime) < 4294967296
   earlier-small =
       let u = W .uptime in
@@ -108,6 +121,7 @@ module _ (c : Call) (k′ : Kernel) (x : List (List ℕ)) (Z : Sized k′) (W : 
             messages-any c (k′ .runner) (k′ .messages) (λ m. (W .kind m, W .size m, W .address m, W .channel m)) (messagesIn x) (S _) i in
             (a, b, d);
         bits = bits-small;
+        flags = flags-small;
         scheduler = (earlier-small, ltb-true _ 256 u, ltb-true _ 256 v);
       }
 

@@ -26,6 +26,7 @@ use Rattle.spec_notes.proofs.RowsBack.{Fit, field, unused, row-back}
 use Rattle.spec_notes.proofs.ThreadsBack.{threads-back, places-back, time-back}
 use Rattle.spec_notes.proofs.SemaphoresBack.{semaphores-back}
 use Rattle.spec_notes.proofs.EventsBack.{bits-back, events-back}
+use Rattle.spec_notes.proofs.FlagsBack.{flags-back}
 use Rattle.spec_notes.proofs.MessagesBack.{messages-back, posted-back}
 
 -- ---- the scheduler
@@ -73,6 +74,7 @@ module _ (k : Kernel) (c : Call) (k′ : Kernel) (Z : Sized k) (Z′ : Sized k�
         unscheduled = k .unscheduled;
         critical = k .critical;
         runner = held k c k′ W;
+        flags = flags-back k c k′ F i;
       }
 
   -- with both levels 0 the first ready one ran

@@ -1,6 +1,6 @@
 -- Every accepted call keeps each field within its type.
 use Prim.Native.Nat.{ℕ, zero, suc, _<_}
-use mathlib.Core.Path.{_≡_}
+use mathlib.Core.Path.{_≡_, refl}
 use mathlib.Core.List.{List, [], _∷_}
 use native.Mathlib.Omega.{arith}
 use lib.Dec.{eqb, ltb}
@@ -9,11 +9,12 @@ use borrow.Table.Steps.{cases}
 use Rattle.base_bits.proofs.Laws.{with-small, without-small}
 use Rattle.spec_kernel.specs.declared.records.Condition.{Condition}
 use Rattle.spec_kernel.specs.declared.records.Kernel.{Kernel}
-use Rattle.spec_kernel.specs.Sizes.{semaphoreCount, eventCount}
+use Rattle.spec_kernel.specs.Sizes.{semaphoreCount, eventCount, flagCount}
 use Rattle.spec_kernel.specs.Records.{thread, semaphore, event, message, noThread, noMessage}
-use Rattle.spec_kernel.specs.Places.{semaphoreQueue}
+use Rattle.spec_kernel.specs.Places.{home, semaphoreQueue}
+use Rattle.spec_kernel.proofs.LowestClear.{with-lowest}
 use Rattle.spec_kernel.specs.Truth.{isTrue}
-use Rattle.spec_kernel.specs.Conditions.{awaits}
+use Rattle.spec_kernel.specs.Conditions.{ofFlags, awaits}
 use Rattle.spec_moves.specs.Standing.{threadsOf, Standing}
 use Rattle.spec_rules.specs.Rules.{Sized, Rules}
 use Rattle.spec_kernel.specs.Channels.{nextMessage}
@@ -27,18 +28,20 @@ use Rattle.spec_regions.specs.Regions.{popAllUnscheduled, pushCritical, popCrit
 use Rattle.spec_semaphores.specs.Semaphores.{postTo, post, createSemaphore, destroySemaphore, makePeriodic, removePeriodic}
 use Rattle.spec_semaphores.specs.Semaphores.{pendSemaphore, postSemaphore}
 use Rattle.spec_events.specs.Events.{workedOut, loadEvent, pendEvent, setBit, clearBit}
+use Rattle.spec_flags.specs.Flags.{createFlag, destroyFlag, pendFlag, postFlag}
 use Rattle.spec_messages.specs.Messages.{createMessage, destroyMessage, handOver, postMessage, receive, pendMessage}
 use Rattle.spec_time.specs.Time.{later, timePasses, pulse, pulseFrom, tick}
 use Rattle.spec_effects.specs.Effects.{effect}
 use Rattle.proof_rules.proofs.Ends.{Before, before}
-use Rattle.proof_rules.proofs.Accepted.{Accepted, accepted}
+use Rattle.proof_rules.proofs.Accepted.{Accepted, accepted, flag-named}
+use Rattle.proof_rules.proofs.OfFlags.{live-flag}
 use Rattle.spec_effects.proofs.ByKind.{_▸_, end, effect-of}
 use Rattle.spec_effects.proofs.RulesKept.{rules-kept}
 use Rattle.proof_rules.proofs.OfDestroy.{freed-record}
-use Rattle.proof_rules.proofs.Wakings.{outs-last, passes-record}
+use Rattle.proof_rules.proofs.Wakings.{outs-last, line-lasts, passes-record}
 use Rattle.spec_notes.specs.Within.{Within, CallWithin}
 use Rattle.spec_notes.proofs.Limits.{SmallThread, Limits, within-limits, limits-within, threads-limits, posts-limits}
-use Rattle.spec_notes.proofs.Limits.{semaphore-limits, events-limits, event-all, scheduler-limits, place-limits, file-limits}
+use Rattle.spec_notes.proofs.Limits.{semaphore-limits, events-limits, flags-limits, event-all, scheduler-limits, place-limits, file-limits}
 
 -- ---- steps
 module _ {k : Kernel} (L : Limits k) where
@@ -124,10 +127,18 @@ module _ {k : Kernel} (L : Limits k) where
         let m = nextMessage k (c .b) in
         cases (eqb m 255) (λ e. rw e (block-limits L _ (c .c) (X .c))) (λ e. rw e (file-limits L m _ (L .messages m)))
 
+    -- who wakes has no ticks left
+    post-flag-limits : Before k → Accepted k c → c .kind ≡ 34 → Limits (postFlag k c)
+    unfolding postFlag
+    post-flag-limits B A e =
+        let (b, _) = live-flag k (c .a) (flag-named A e refl) in
+        threads-limits L _ (λ t. line-lasts SmallThread (λ _ _ _. omega arith) (B .core .standing) (home ofFlags (c .a)) (λ z. omega arith) t
+        (L .threads t))
+
     effect-limits : Before k → Accepted k c → Limits (effect k c)
     unfolding createThread destroyThread setPriority resetPriority yielded sleep pushUnscheduled popUnscheduled popAllUnscheduled
         pushCritical popCritical popAllCritical createSemaphore destroySemaphore makePeriodic removePeriodic postSemaphore loadEvent
-        setBit clearBit createMessage destroyMessage
+        setBit clearBit createMessage destroyMessage createFlag destroyFlag pendFlag
     effect-limits B A =
         let S = B .core .standing in
         let (up, unscheduled, critical) = L .scheduler in
@@ -166,6 +177,10 @@ module _ {k : Kernel} (L : Limits k) where
         ▸ (λ _. post-limits L (c .a))  -- 28
         ▸ (λ _. bits _ (with-small (k .bits) (c .a) (L .bits)))  -- 29
         ▸ (λ _. bits _ (without-small (k .bits) (c .a) (L .bits)))  -- 30
+        ▸ (λ _. flags-limits L _ (with-lowest (k .flags) flagCount (L .flags)))  -- 31
+        ▸ (λ _. flags-limits L _ (without-small (k .flags) (c .a) (L .flags)))  -- 32
+        ▸ (λ _. block-limits (levels _ _ unscheduled (omega arith)) _ (c .c) (X .c))  -- 33
+        ▸ post-flag-limits B A  -- 34
         ▸ end
 
 scheduled-limits : {k : Kernel} → Limits k → Limits (scheduled k)

@@ -5,7 +5,7 @@ use mathlib.Core.List.{List, [], _∷_, map}
 use lib.Dec.{eqb}
 use lib.ListN.{length, getD, set, drop, replicate}
 use Rattle.base_queue.specs.declared.Queue.{Queue}
-use Rattle.base_queue.specs.Lists.{keep}
+use Rattle.base_queue.specs.Lists.{keep, isEmpty}
 use Rattle.base_queue.specs.Queues.{capacity, items, pack}
 use Rattle.base_bits.specs.Words.{bitAt, withBit, withoutBit}
 use Rattle.base_rows.specs.Rows.{rowFrom}
@@ -26,8 +26,8 @@ use Rattle.spec_notes.specs.Rows.{threadFrom, threadWidths, semaphoreFro
 use Rattle.spec_notes.specs.Rows.{eventFrom, eventWidths, messageFrom, messageWidths, schedulerWidths}
 use Rattle.spec_notes.specs.Touched.{youngerThread, youngerSemaphore}
 use Rattle.spec_notes.specs.Predicted.{predictedCode, predictedThread, predictedSemaphore, predictedEvent, predictedMessage}
-use Rattle.spec_notes.specs.Predicted.{predictedLevels}
-use Rattle.spec_notes.specs.Notes.{schedulerIn, threadsIn, semaphoresIn, eventsIn, messagesIn}
+use Rattle.spec_notes.specs.Predicted.{predictedFlags, predictedLevels}
+use Rattle.spec_notes.specs.Notes.{schedulerIn, threadsIn, semaphoresIn, eventsIn, flagsIn, messagesIn}
 
 -- ---- a table of places: who was touched is out, and back at its old place
 -- place by place: the noted member of that place, or else the next one that stayed
@@ -110,6 +110,11 @@ unfoldable pub eventsBefore : List Event → List ℕ → List Event
 eventsBefore new s =
     readEntries (ownIn eventWidths) (eventRead new) (length s) (drop (cond (bitChanged s) 1 0) s) new
 
+-- ---- flags
+-- where the section has a byte, the flag of that id wasn't live
+unfoldable pub flagsBefore : Call → ℕ → List ℕ → ℕ
+flagsBefore c flags s = cond (isEmpty s) (predictedFlags c flags) (withoutBit (predictedFlags c flags) (getD s 0 0))
+
 -- ---- messages
 pub record Filing : Type 0 where
   pub messages : List Message
@@ -169,6 +174,7 @@ beforeAt c k′ x unscheduled critical runner =
     (semaphoresBefore c (k′ .semaphores) (semaphoresIn x))
     (eventsBefore (k′ .events) (eventsIn x))
     (bitsBefore c (k′ .bits) (eventsIn x))
+    (flagsBefore c (k′ .flags) (flagsIn x))
     (postsBack c (k′ .runner) (postsOf k′) (messagesIn x))
     (earlier c (k′ .uptime))
     unscheduled

@@ -7,7 +7,8 @@ use Rattle.spec_kernel.specs.Sizes.{threadCount, semaphoreCount, eventCount, me
 use Rattle.spec_kernel.specs.declared.records.Kernel.{Kernel}
 use Rattle.spec_calls.specs.declared.call.Call.{Call}
 use Rattle.spec_calls.specs.Calls.{callOf}
-use Rattle.spec_notes.specs.Sections.{schedulerSection, threadsSection, semaphoresSection, eventsSection, messagesSection}
+use Rattle.spec_notes.specs.Sections.{schedulerSection, threadsSection, semaphoresSection}
+use Rattle.spec_notes.specs.Sections.{eventsSection, flagsSection, messagesSection}
 
 -- A section stands after its length, in two bytes; so do any sections, one after the other [01, notes 1].
 abbrev pub section : List ℕ → List ℕ
@@ -17,18 +18,19 @@ abbrev pub framed : List (List ℕ) → List ℕ
 framed [] = []
 framed (s ∷ rest) = section s ++ framed rest
 
--- ---- The order of the sections: scheduler, threads, semaphores, events and messages [01, notes 1].
+-- ---- The order of the sections: scheduler, threads, semaphores, events, flags and messages [01, notes 1; 02 §1].
 abbrev pub sectionsOf : Kernel → Call → Kernel → List (List ℕ)
 sectionsOf k c k′ =
     schedulerSection k c k′
     ∷ threadsSection k c k′
     ∷ semaphoresSection k c k′
     ∷ eventsSection k c k′
+    ∷ flagsSection k c k′
     ∷ messagesSection k c k′
     ∷ []
 
 abbrev pub sectionCount : ℕ
-sectionCount = 5
+sectionCount = 6
 
 -- each of them by its place in that order
 abbrev pub schedulerIn : List (List ℕ) → List ℕ
@@ -43,8 +45,11 @@ semaphoresIn x = getD x 2 []
 abbrev pub eventsIn : List (List ℕ) → List ℕ
 eventsIn x = getD x 3 []
 
+abbrev pub flagsIn : List (List ℕ) → List ℕ
+flagsIn x = getD x 4 []
+
 abbrev pub messagesIn : List (List ℕ) → List ℕ
-messagesIn x = getD x 4 []
+messagesIn x = getD x 5 []
 
 -- A note but for its end: the call record, then the sections [01, notes 1].
 unfoldable pub beforeLength : Kernel → List ℕ → Kernel → List ℕ
@@ -59,6 +64,6 @@ abbrev pub leastNote : ℕ
 leastNote = 16 + 2 * sectionCount + 2
 
 -- a note whose sections are as long as they can be: none is longer. An entry has at most 15 bytes for a thread or a semaphore, 11 for an
--- event and 17 for a message; the bits have one, the scheduler four.
+-- event and 17 for a message; the bits have one, the flags one, the scheduler four.
 abbrev pub longestNote : ℕ
-longestNote = leastNote + 4 + 15 * threadCount + 15 * semaphoreCount + (1 + 11 * eventCount) + 17 * messageCount
+longestNote = leastNote + 4 + 15 * threadCount + 15 * semaphoreCount + (1 + 11 * eventCount) + 1 + 17 * messageCount

@@ -4,12 +4,14 @@ use Prim.Native.Nat.{ℕ, _+_, _-_, _%_}
 use mathlib.Core.Bool.{Bool, not, cond, _&&_, _||_}
 use mathlib.Core.List.{List, [], _∷_}
 use lib.Dec.{eqb, ltb}
+use Rattle.base_bits.specs.Words.{withBit}
 use Rattle.spec_kernel.specs.declared.records.Condition.{Condition}
 use Rattle.spec_kernel.specs.declared.records.Thread.{Thread}
 use Rattle.spec_kernel.specs.declared.records.Semaphore.{Semaphore}
 use Rattle.spec_kernel.specs.declared.records.Event.{Event}
 use Rattle.spec_kernel.specs.declared.records.Message.{Message}
 use Rattle.spec_kernel.specs.declared.records.Kernel.{Kernel}
+use Rattle.spec_kernel.specs.Sizes.{flagCount}
 use Rattle.spec_kernel.specs.Conditions.{readyFor, isReady}
 use Rattle.spec_calls.specs.declared.call.Call.{Call}
 use Rattle.spec_refusals.specs.Refusals.{is, isOneOf}
@@ -24,7 +26,7 @@ predictedCode c r =
     (cond (isOneOf c (4 ∷ 5 ∷ [])) (threadCode r)
     (cond (isOneOf c (19 ∷ 28 ∷ [])) 3
     (cond (isOneOf c (20 ∷ 22 ∷ 23 ∷ 29 ∷ 30 ∷ [])) 4
-    (cond (is c 26) 5 1)))))
+    (cond (is c 26) 5 (cond (is c 34) 6 1))))))
 
 -- the thread slept or waited, of its code
 abbrev pub wasBlocked : ℕ → Bool
@@ -39,16 +41,17 @@ abbrev pub dataNow : ℕ → Condition → ℕ
 dataNow code condition = cond (eqb code 5) (conditionData condition) (conditionData condition % 256)
 
 -- A thread of this code before: one that wasn't live was all zero; a ready one had no ticks left, one whose time was up had one; a blocked
--- one that is ready now had no reason and no reply, one that blocks had been met; the caller stood first; one that slept woke first.
+-- one that is ready now had no reason and no reply, one that blocks had been met; the caller stood first, and who waited for a flag behind
+-- its poster; one that slept woke first.
 unfoldable pub predictedThread : Call → Thread → ℕ → List ℕ
 predictedThread c r code =
     cond (eqb code 0) 0 (r .priority)
     ∷ cond (eqb code 0) 0 (r .first)
-    ∷ cond (ltb 2 code) (cond (isOneOf c (19 ∷ 28 ∷ [])) (c .a) (dataNow code (r .condition))) 0
+    ∷ cond (ltb 2 code) (cond (isOneOf c (19 ∷ 28 ∷ 34 ∷ [])) (c .a) (dataNow code (r .condition))) 0
     ∷ cond (wasBlocked code) (cond (is c 1) 1 (r .ticks)) 0
     ∷ cond (wasBlocked code && isReady r) 0 (cond (blocks code r) 1 (wakeCode (r .wake)))
     ∷ cond (eqb code 0) 0 (cond (not (r .live) || (wasBlocked code && isReady r)) 255 (r .reply))
-    ∷ cond (eqb code 1 || eqb code 3 || eqb code 4) 0 255
+    ∷ cond (is c 34) 1 (cond (eqb code 1 || eqb code 3 || eqb code 4 || eqb code 6) 0 255)
     ∷ cond (eqb code 2 || (is c 1 && wasBlocked code)) 0 255
     ∷ []
 
@@ -88,12 +91,16 @@ predictedMessage c runner r =
     ∷ cond (is c 27) 0 255
     ∷ []
 
--- The levels before a push and a pop; the runner as after.
+-- The flags: the one that was destroyed was live.
+unfoldable pub predictedFlags : Call → ℕ → ℕ
+predictedFlags c flags = cond (is c 32 && ltb (c .a) flagCount) (withBit flags (c .a)) flags
+
+-- The levels before a push and a pop, which a flag's pend is too; the runner as after.
 abbrev pub predictedLevels : Call → ℕ → ℕ → ℕ → List ℕ
 predictedLevels c unscheduled critical runner =
     schedulerRow
     (cond (is c 8) (unscheduled - 1) (cond (is c 9) (unscheduled + 1) unscheduled))
-    (cond (is c 11) (critical - 1) (cond (is c 12) (critical + 1) critical))
+    (cond (is c 11) (critical - 1) (cond (isOneOf c (12 ∷ 33 ∷ [])) (critical + 1) critical))
     runner
 
 unfoldable pub predictedScheduler : Call → Kernel → List ℕ

@@ -15,21 +15,21 @@ use Rattle.spec_kernel.specs.declared.records.Event.{Event}
 use Rattle.spec_kernel.specs.declared.records.Message.{Message}
 
 -- ---- a thread: its code, and the rest
--- 0 not live, 1 ready, 2 asleep, 3 waiting for a semaphore, 4 for an event, 5 for a message
+-- 0 not live, 1 ready, 2 asleep, 3 waiting for a semaphore, 4 for an event, 5 for a message, 6 for a flag
 abbrev pub conditionCode : Condition → ℕ
 conditionCode Ready = 1
 conditionCode Asleep = 2
 conditionCode (ForSemaphore i) = 3
 conditionCode (ForEvent i) = 4
 conditionCode (ForMessage mask) = 5
-conditionCode (ForFlag i) = 4
+conditionCode (ForFlag i) = 6
 
 abbrev pub threadCode : Thread → ℕ
 threadCode r = cond (r .live) (conditionCode (r .condition)) 0
 
--- the same, and of a thread that isn't live too what its condition is: five more, so that one code has one kind of condition
+-- the same, and of a thread that isn't live too what its condition is: six more, so that one code has one kind of condition
 abbrev pub codeFor : Bool → Condition → ℕ
-codeFor live c = cond live (conditionCode c) (5 + conditionCode c)
+codeFor live c = cond live (conditionCode c) (6 + conditionCode c)
 
 abbrev pub fullCode : Thread → ℕ
 fullCode r = codeFor (r .live) (r .condition)
@@ -43,11 +43,12 @@ conditionData (ForEvent i) = i
 conditionData (ForMessage mask) = mask
 conditionData (ForFlag i) = i
 
--- 0 none, 1 met, 2 timed out on a semaphore, 3 on an event, 4 on a message
+-- 0 none, 1 met, 2 timed out on a semaphore, 3 on an event, 4 on a message, 5 on a flag
 abbrev pub objectCode : Object → ℕ
 objectCode Object.Semaphore = 2
 objectCode Object.Event = 3
 objectCode Object.Message = 4
+objectCode Object.Flag = 5
 
 abbrev pub wakeCode : Wake → ℕ
 wakeCode Wake.None = 0
@@ -68,13 +69,15 @@ unfoldable pub conditionFrom : ℕ → ℕ → Condition
 conditionFrom code what =
     cond (eqb code 2) Asleep
     (cond (eqb code 3) (ForSemaphore (what % 256))
-    (cond (eqb code 4) (ForEvent (what % 256)) (cond (eqb code 5) (ForMessage what) Ready)))
+    (cond (eqb code 4) (ForEvent (what % 256))
+    (cond (eqb code 5) (ForMessage what) (cond (eqb code 6) (ForFlag (what % 256)) Ready))))
 
 unfoldable pub wakeFrom : ℕ → Wake
 wakeFrom code =
     cond (eqb code 1) Wake.Met
     (cond (eqb code 2) (Wake.TimedOut Object.Semaphore)
-    (cond (eqb code 3) (Wake.TimedOut Object.Event) (cond (eqb code 4) (Wake.TimedOut Object.Message) Wake.None)))
+    (cond (eqb code 3) (Wake.TimedOut Object.Event)
+    (cond (eqb code 4) (Wake.TimedOut Object.Message) (cond (eqb code 5) (Wake.TimedOut Object.Flag) Wake.None))))
 
 unfoldable pub threadFrom : ℕ → List ℕ → Thread
 threadFrom code row =

@@ -1,5 +1,5 @@
--- The five sections of a note, over the parts of the two states that they speak of. Of all but the scheduler's there is an entry for each
--- touched record, in id order: for a run of ids, and for all ids in the section [01, notes 1].
+-- The six sections of a note, over the parts of the two states that they speak of. Of threads, semaphores, events and messages there is an
+-- entry for each touched record, in id order: for a run of ids, and for all ids in the section [01, notes 1; 02 §1].
 use Prim.Native.Nat.{ℕ, zero, suc, _+_}
 use mathlib.Core.Bool.{Bool, cond}
 use mathlib.Core.List.{List, [], _∷_, _++_}
@@ -13,8 +13,9 @@ use Rattle.spec_kernel.specs.declared.records.Semaphore.{Semaphore}
 use Rattle.spec_kernel.specs.declared.records.Event.{Event}
 use Rattle.spec_kernel.specs.declared.records.Message.{Message}
 use Rattle.spec_kernel.specs.declared.records.Kernel.{Kernel}
-use Rattle.spec_kernel.specs.Sizes.{threadCount, semaphoreCount, eventCount, messageCount}
+use Rattle.spec_kernel.specs.Sizes.{threadCount, semaphoreCount, eventCount, messageCount, flagCount}
 use Rattle.spec_kernel.specs.Records.{noThread, noSemaphore, noEvent, noMessage}
+use Rattle.spec_kernel.specs.Free.{lowestClear}
 use Rattle.spec_moves.specs.declared.parts.Threads.{Threads}
 use Rattle.spec_moves.specs.declared.parts.Posts.{Posts}
 use Rattle.spec_moves.specs.Moves.{threadIn}
@@ -24,7 +25,7 @@ use Rattle.spec_notes.specs.Rows.{threadCode, threadRow, threadWidths, s
 use Rattle.spec_notes.specs.Rows.{eventRow, eventWidths, messageRow, messageWidths, schedulerRow, schedulerWidths}
 use Rattle.spec_notes.specs.Touched.{changedThread, changedSemaphore, changedEvent, changedMessage}
 use Rattle.spec_notes.specs.Predicted.{predictedCode, predictedThread, predictedSemaphore, predictedEvent, predictedMessage}
-use Rattle.spec_notes.specs.Predicted.{predictedLevels}
+use Rattle.spec_notes.specs.Predicted.{predictedFlags, predictedLevels}
 
 -- the entries of the touched ones of n ids from i on
 abbrev pub entriesFrom : (ℕ → Bool) → (ℕ → List ℕ) → ℕ → ℕ → List ℕ
@@ -82,6 +83,14 @@ bitNoted old new = cond (eqb old new) [] (8 ∷ [])
 
 unfoldable pub eventsSection : Kernel → Call → Kernel → List ℕ
 eventsSection k c k′ = bitNoted (k .bits) (k′ .bits) ++ eventEntries (k .events) (k′ .events) 0 eventCount
+
+-- ---- flags
+-- the flag that was made, by its id: the lowest that was free before
+abbrev pub flagsNoted : ℕ → ℕ → List ℕ
+flagsNoted old predicted = cond (eqb old predicted) [] (lowestClear old 0 flagCount ∷ [])
+
+unfoldable pub flagsSection : Kernel → Call → Kernel → List ℕ
+flagsSection k c k′ = flagsNoted (k .flags) (predictedFlags c (k′ .flags))
 
 -- ---- messages
 -- a message before: its id, and what isn't as predicted of its record and its place; `runner` is who runs after the call
