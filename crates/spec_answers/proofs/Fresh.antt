@@ -86,6 +86,7 @@ fresh-within =
       unscheduled = omega arith;
       critical = omega arith;
       runner = omega arith;
+      flags = omega arith;
     }
 
 -- the test passes

@@ -12,6 +12,7 @@ use Rattle.spec_regions.specs.Regions.{pushUnscheduled, popUnscheduled, popAllU
 use Rattle.spec_semaphores.specs.Semaphores.{createSemaphore, destroySemaphore, makePeriodic, removePeriodic}
 use Rattle.spec_semaphores.specs.Semaphores.{pendSemaphore, postTo, post, postSemaphore}
 use Rattle.spec_events.specs.Events.{workedOut, loadEvent, pendEvent, setBit, clearBit}
+use Rattle.spec_flags.specs.Flags.{createFlag, destroyFlag, pendFlag, postFlag}
 use Rattle.spec_messages.specs.Messages.{createMessage, destroyMessage, handOver, postMessage, receive, pendMessage}
 use Rattle.spec_time.specs.Time.{pulse, pulseFrom, tick}
 use Rattle.spec_effects.specs.Effects.{Does, nothing, effectsOfKinds, effect}
@@ -58,6 +59,8 @@ module _ (k : Kernel) (c : Call) where
       createSemaphore destroySemaphore makePeriodic removePeriodic pendSemaphore postSemaphore
       -- spec_events
       workedOut loadEvent pendEvent setBit clearBit
+      -- spec_flags
+      createFlag destroyFlag pendFlag postFlag
       -- spec_messages
       createMessage destroyMessage handOver postMessage receive pendMessage
       -- spec_time

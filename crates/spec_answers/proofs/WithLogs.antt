@@ -27,7 +27,7 @@ use Rattle.spec_effects.proofs.RulesKept.{rules-kept}
 use Rattle.spec_effects.proofs.LawsKept.{laws-kept}
 use Rattle.spec_notes.specs.Within.{OfTypes}
 use Rattle.spec_notes.specs.Counts.{Differ, mostBytes}
-use Rattle.spec_notes.proofs.Counting.{threadsDiffer, semaphoresDiffer, messagesDiffer}
+use Rattle.spec_notes.proofs.Counting.{threadsDiffer, semaphoresDiffer, messagesDiffer, flagsDiffer}
 use Rattle.spec_notes.proofs.Lengths.{note-short}
 use Rattle.spec_notes.proofs.Differing.{differ}
 use Rattle.spec_notes.proofs.Yields.{call-within}
@@ -207,12 +207,12 @@ module _ (k : Kernel) (bytes log : List ℕ) (used : ℕ) where
       notes-are-short =
           one-of-four
           (λ x _ _ _. x .answer .number ≡ 0
-          → ((T : ℕ) × (S : ℕ) × (M : ℕ) × Differ k (x .kernel) T S M × (length note ≤ mostBytes T S M)))
+          → ((T : ℕ) × (S : ℕ) × (M : ℕ) × (F : ℕ) × Differ k (x .kernel) T S M F × (length note ≤ mostBytes T S M F)))
           (λ e n _ _. let Z = T .sized in
           let R = rules-mean k Z e in
           let k′ = stateAfter k bytes in
           let (Z′, R′) = rules-kept k (callOf bytes) Z R n in
-          (threadsDiffer k k′, semaphoresDiffer k k′, messagesDiffer k k′, differ k k′, note-short k bytes (B .0) Z R n))
+          (threadsDiffer k k′, semaphoresDiffer k k′, messagesDiffer k k′, flagsDiffer k k′, differ k k′, note-short k bytes (B .0) Z R n))
           (λ _ _ _ z. absurd (omega arith)) (λ _ n z. absurd (n z)) (λ _ z. absurd (omega arith))
 
 -- ---- the promises

@@ -3,3 +3,4 @@ pub mod Logs
 pub mod Runs
 pub mod Promises
 pub mod Samples
+pub mod FlagSamples

@@ -88,11 +88,12 @@ NoteIsWritten k bytes log used r log′ =
     × (log′ ≡ take used log ++ (noteFor k bytes ++ drop (used + length (noteFor k bytes)) log)) × (length log′ ≡ length log)
     × (r .used ≡ used + length (noteFor k bytes))
 
--- A note has at most 96 + 24·T + 16·S + 16·M bytes, where T, S and M records are not equal in the two states [01, notes 4].
+-- A note has at most 96 + 24·T + 16·S + 16·M + 8·F bytes, where so many records of threads, semaphores, messages and flags are not equal
+-- in the two states [01, notes 4; 02 §1].
 unfoldable pub NotesAreShort : Kernel → List ℕ → Logged → Type 0
 NotesAreShort k bytes r =
     r .answer .number ≡ 0
-    → ((T : ℕ) × (S : ℕ) × (M : ℕ) × Differ k (r .kernel) T S M × (length (noteFor k bytes) ≤ mostBytes T S M))
+    → ((T : ℕ) × (S : ℕ) × (M : ℕ) × (F : ℕ) × Differ k (r .kernel) T S M F × (length (noteFor k bytes) ≤ mostBytes T S M F))
 
 -- ---- What is promised of a call on a state, with a log of which so much is used: r comes back, and log′ is what the log holds then.
 pub record Answered (k : Kernel) (bytes log : List ℕ) (used : ℕ) (r : Logged) (log′ : List ℕ) : Type 0 where
