@@ -63,7 +63,7 @@ static void add_note(size_t start, uint8_t runner)
     done.notes[done.count++] = (struct note){ start, runner };
 }
 
-/* The limits of documents 01 and 02, counted from the two states; `now` has taken the call, `before` is the state before it. */
+/* The documents' limits, counted from the two states; `now` has taken the call, `before` is the state before it. */
 static int length_is_right(size_t length)
 {
     struct counts n = count_differences(&before, &now);

@@ -1,4 +1,4 @@
-/* Forward meaning of the call kinds (document 01, "What each call does" and "What comes back"; document 02, request 1). */
+/* Forward meaning of the call kinds (document 01, "What each call does", "What comes back"; document 02, request 1). */
 #include <assert.h>
 #include <string.h>
 

@@ -1,4 +1,4 @@
-/* The second replay: the kernel of documents 01 and 02 written once more in plain C, to be compared with the proved one. */
+/* The second replay: the kernel of documents 01 and 02 once more, in plain C, to be compared with the proved one. */
 #ifndef REPLAY_H
 #define REPLAY_H
 

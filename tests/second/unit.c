@@ -1,4 +1,4 @@
-/* States made by hand: what keeps_rules must refuse and accept, number 14, the counts T, S and M, and some notes. */
+/* States made by hand: what keeps_rules must refuse and accept, number 14, the counts T, S, M and F, and some notes. */
 #include <stdio.h>
 #include <string.h>
 
@@ -50,9 +50,9 @@ static int gives_14(void)
     expect(!keeps_rules(&k) && gives_14(), "should break: " #__VA_ARGS__, __LINE__); } while (0)
 #define KEEPS(...) do { memcpy(&k, &base, sizeof k); __VA_ARGS__; \
     expect(keeps_rules(&k), "should keep: " #__VA_ARGS__, __LINE__); } while (0)
-#define COUNTS(t, s, m, ...) do { memcpy(&k, &base, sizeof k); EXPECT((__VA_ARGS__).number == 0); \
+#define COUNTS(t, s, m, f, ...) do { memcpy(&k, &base, sizeof k); EXPECT((__VA_ARGS__).number == 0); \
     struct counts n = count_differences(&base, &k); \
-    expect(n.T == t && n.S == s && n.M == m, "counts of " #__VA_ARGS__, __LINE__); } while (0)
+    expect(n.T == t && n.S == s && n.M == m && n.F == f, "counts of " #__VA_ARGS__, __LINE__); } while (0)
 
 /* 0 and 1 wait for semaphore 0, 2 sleeps, 3 waits for event 0, 4 for messages, 5 runs in a region, 6 is ready. */
 static void make_base(void)
@@ -143,7 +143,7 @@ static void thread_fields(void)
     BREAKS(k.threads[6].priority = 6);
     BREAKS(k.threads[6].first_priority = 0);
     BREAKS(k.threads[6].first_priority = 31);
-    BREAKS(k.threads[4].condition = 5);
+    BREAKS(k.threads[4].condition = 6);
     BREAKS(k.threads[6].object = 1);
     BREAKS(k.threads[2].object = 1);
     BREAKS(k.threads[4].object = 0);
@@ -153,7 +153,7 @@ static void thread_fields(void)
     BREAKS(k.threads[6].wake_reason = 3);
     BREAKS(k.threads[6].wake_reason = TIMED_OUT);
     BREAKS(k.threads[6].wake_reason = TIMED_OUT, k.threads[6].timed_out_kind = ASLEEP);
-    BREAKS(k.threads[6].wake_reason = TIMED_OUT, k.threads[6].timed_out_kind = 5);
+    BREAKS(k.threads[6].wake_reason = TIMED_OUT, k.threads[6].timed_out_kind = 6);
     BREAKS(k.threads[6].wake_reason = MET, k.threads[6].timed_out_kind = WAITS_EVENT);
     BREAKS(k.threads[6].reply = 64);
     KEEPS(k.threads[6].reply = 63);
@@ -220,24 +220,24 @@ static void running(void)
 
 static void counts(void)
 {
-    COUNTS(0, 0, 0, ask(8, 0, 0, 0, 0));
-    COUNTS(1, 0, 0, ask(2, 9, 0, 0, 0));
-    COUNTS(0, 1, 0, ask(14, 0, 0, 1, 0));
-    COUNTS(0, 0, 1, ask(24, 0, 0, 0, 0));
-    COUNTS(3, 1, 0, ask(1, 0, 0, 0, 0));
-    COUNTS(1, 0, 0, ask(19, 0, 0, 0, 0));  /* wakes and leaves the count */
-    COUNTS(0, 0, 0, ask(19, 1, 0, 0, 0));  /* at the maximum */
-    COUNTS(0, 1, 0, ask(18, 1, 0, 0, 0));
-    COUNTS(0, 1, 0, ask(15, 1, 0, 0, 0));
-    COUNTS(0, 0, 0, ask(16, 1, 0, 5, 3));
-    COUNTS(0, 1, 0, ask(17, 1, 0, 0, 0));
-    COUNTS(0, 0, 0, ask(4, 5, 6, 0, 0));
-    COUNTS(1, 0, 0, ask(4, 0, 9, 0, 0));
-    COUNTS(0, 0, 0, ask(5, 1, 0, 0, 0));
-    COUNTS(1, 0, 1, ask(3, 1, 0, 0, 0));
-    COUNTS(1, 0, 1, ask(3, 2, 0, 0, 0));
-    COUNTS(0, 0, 0, ask(22, 1, 0, 0, 0));
-    COUNTS(1, 0, 0, ask(20, 0, 0, 0, 0)); /* mode all with mask 0 wakes thread 3 */
+    COUNTS(0, 0, 0, 0, ask(8, 0, 0, 0, 0));
+    COUNTS(1, 0, 0, 0, ask(2, 9, 0, 0, 0));
+    COUNTS(0, 1, 0, 0, ask(14, 0, 0, 1, 0));
+    COUNTS(0, 0, 1, 0, ask(24, 0, 0, 0, 0));
+    COUNTS(3, 1, 0, 0, ask(1, 0, 0, 0, 0));
+    COUNTS(1, 0, 0, 0, ask(19, 0, 0, 0, 0));  /* wakes and leaves the count */
+    COUNTS(0, 0, 0, 0, ask(19, 1, 0, 0, 0));  /* at the maximum */
+    COUNTS(0, 1, 0, 0, ask(18, 1, 0, 0, 0));
+    COUNTS(0, 1, 0, 0, ask(15, 1, 0, 0, 0));
+    COUNTS(0, 0, 0, 0, ask(16, 1, 0, 5, 3));
+    COUNTS(0, 1, 0, 0, ask(17, 1, 0, 0, 0));
+    COUNTS(0, 0, 0, 0, ask(4, 5, 6, 0, 0));
+    COUNTS(1, 0, 0, 0, ask(4, 0, 9, 0, 0));
+    COUNTS(0, 0, 0, 0, ask(5, 1, 0, 0, 0));
+    COUNTS(1, 0, 1, 0, ask(3, 1, 0, 0, 0));
+    COUNTS(1, 0, 1, 0, ask(3, 2, 0, 0, 0));
+    COUNTS(0, 0, 0, 0, ask(22, 1, 0, 0, 0));
+    COUNTS(1, 0, 0, 0, ask(20, 0, 0, 0, 0)); /* mode all with mask 0 wakes thread 3 */
 }
 
 /* Post to oneself by the sender and the pend that takes it change no record. */
@@ -246,12 +246,12 @@ static void message_counts(void)
     memcpy(&k, &base, sizeof k);
     EXPECT(same(ask(24, 0, 0, 0, 0), 0, 2, 5));
     memcpy(&base, &k, sizeof k);
-    COUNTS(1, 0, 1, ask(26, 2, 4, 3, 0)); /* thread 4 waits on channel 3 */
+    COUNTS(1, 0, 1, 0, ask(26, 2, 4, 3, 0)); /* thread 4 waits on channel 3 */
     EXPECT(k.threads[4].reply == 2 && k.threads[4].wake_reason == MET && k.messages[2].owner == 4);
-    COUNTS(0, 0, 1, ask(26, 2, 4, 2, 0)); /* but not on channel 2 */
-    COUNTS(0, 0, 0, ask(26, 2, 5, 2, 0));
+    COUNTS(0, 0, 1, 0, ask(26, 2, 4, 2, 0)); /* but not on channel 2 */
+    COUNTS(0, 0, 0, 0, ask(26, 2, 5, 2, 0));
     memcpy(&base, &k, sizeof k);
-    COUNTS(0, 0, 0, ask(27, 0, 2, 0, 0));
+    COUNTS(0, 0, 0, 0, ask(27, 0, 2, 0, 0));
 }
 
 /* Uptime 4,294,967,295, then a tick; and the reasons that a long sleep and two timeouts leave. */
@@ -324,15 +324,15 @@ static int notes_as(const uint8_t *sections, size_t n, uint8_t kind, uint8_t a, 
 static void notes_of_threads(void)
 {
     make_fresh(&k);
-    NOTES(2, 5, 0, 0, 0, EMPTY, 1, 0, 0, EMPTY, EMPTY, EMPTY); /* was all zero */
+    NOTES(2, 5, 0, 0, 0, EMPTY, 1, 0, 0, EMPTY, EMPTY, EMPTY, EMPTY); /* was all zero */
     memcpy(&k, &base, sizeof k);
-    NOTES(19, 0, 0, 0, 0, EMPTY, 8, 0, 0x80, 0xc8, 9, 0, 0, 0, 2, 1, EMPTY, EMPTY, EMPTY); /* behind two ready ones */
+    NOTES(19, 0, 0, 0, 0, EMPTY, 8, 0, 0x80, 0xc8, 9, 0, 0, 0, 2, 1, EMPTY, EMPTY, EMPTY, EMPTY); /* behind two */
     memcpy(&k, &base, sizeof k);
-    NOTES(20, 0, 0, 0, 0, EMPTY, 3, 0, 0x83, 0x40, 4, EMPTY, 3, 0, 0x80, 1, 1, EMPTY); /* was mode any */
-    NOTES(4, 6, 7, 0, 0, EMPTY, 3, 0, 0x86, 0x40, 2, EMPTY, EMPTY, EMPTY); /* the same priority */
-    NOTES(9, 0, 0, 0, 0, 2, 0, 4, 5, EMPTY, EMPTY, EMPTY, EMPTY); /* 3 runs now, and wasn't met before it waited */
-    NOTES(7, 0, 0, 3, 0, EMPTY, 1, 0, 3, EMPTY, EMPTY, EMPTY);    /* met, as predicted */
-    NOTES(7, 0, 0, 3, 0, EMPTY, 3, 0, 0x85, 0x10, 0, EMPTY, EMPTY, EMPTY); /* 5 was never woken */
+    NOTES(20, 0, 0, 0, 0, EMPTY, 3, 0, 0x83, 0x40, 4, EMPTY, 3, 0, 0x80, 1, 1, EMPTY, EMPTY); /* was mode any */
+    NOTES(4, 6, 7, 0, 0, EMPTY, 3, 0, 0x86, 0x40, 2, EMPTY, EMPTY, EMPTY, EMPTY); /* the same priority */
+    NOTES(9, 0, 0, 0, 0, 2, 0, 4, 5, EMPTY, EMPTY, EMPTY, EMPTY, EMPTY); /* 3 runs now */
+    NOTES(7, 0, 0, 3, 0, EMPTY, 1, 0, 3, EMPTY, EMPTY, EMPTY, EMPTY);    /* met, as predicted */
+    NOTES(7, 0, 0, 3, 0, EMPTY, 3, 0, 0x85, 0x10, 0, EMPTY, EMPTY, EMPTY, EMPTY); /* 5 was never woken */
 }
 
 /* Thread 2 wakes at the seventh tick; at the ninth 0 and 1, which stand behind three ready threads, time out. */
@@ -341,66 +341,281 @@ static void notes_of_ticks(void)
     memcpy(&k, &base, sizeof k);
     for (int i = 1; i <= 9; i++)
         if (i == 2) /* its ticks are its period now, as if it had been posted */
-            NOTES(1, 0, 0, 0, 0, EMPTY, EMPTY, 8, 0, 0x81, 0x0a, 1, 0, 4, 0, 0, 0, EMPTY, EMPTY);
+            NOTES(1, 0, 0, 0, 0, EMPTY, EMPTY, 8, 0, 0x81, 0x0a, 1, 0, 4, 0, 0, 0, EMPTY, EMPTY, EMPTY);
         else if (i == 7)
-            NOTES(1, 0, 0, 0, 0, EMPTY, 1, 0, 2, EMPTY, EMPTY, EMPTY);
+            NOTES(1, 0, 0, 0, 0, EMPTY, 1, 0, 2, EMPTY, EMPTY, EMPTY, EMPTY);
         else if (i == 9)
-            NOTES(1, 0, 0, 0, 0, EMPTY, 7, 0, 0x80, 0x40, 3, 0x81, 0xc0, 4, 1, EMPTY, EMPTY, EMPTY);
+            NOTES(1, 0, 0, 0, 0, EMPTY, 7, 0, 0x80, 0x40, 3, 0x81, 0xc0, 4, 1, EMPTY, EMPTY, EMPTY, EMPTY);
         else
-            NOTES(1, 0, 0, 0, 0, EMPTY, EMPTY, EMPTY, EMPTY, EMPTY); /* ageing alone; posts at the maximum too */
-    NOTES(16, 1, 0, 1, 1, EMPTY, EMPTY, 10, 0, 0x81, 0x18, 2, 0, 0, 0, 3, 0, 0, 0, EMPTY, EMPTY);
-    NOTES(16, 1, 0, 1, 1, EMPTY, EMPTY, EMPTY, EMPTY, EMPTY);
-    NOTES(16, 0, 0, 1, 1, EMPTY, EMPTY, 10, 0, 0x80, 0x18, 0, 0, 0, 0, 0, 0, 0, 0, EMPTY, EMPTY);
-    NOTES(1, 0, 0, 0, 0, EMPTY, EMPTY, EMPTY, EMPTY, EMPTY);    /* counted, and told */
-    NOTES(1, 0, 0, 0, 0, EMPTY, EMPTY, 1, 0, 0, EMPTY, EMPTY); /* counted, and full now */
-    NOTES(1, 0, 0, 0, 0, EMPTY, EMPTY, EMPTY, EMPTY, EMPTY);    /* full before */
+            NOTES(1, 0, 0, 0, 0, EMPTY, EMPTY, EMPTY, EMPTY, EMPTY, EMPTY); /* ageing alone; posts at the maximum too */
+    NOTES(16, 1, 0, 1, 1, EMPTY, EMPTY, 10, 0, 0x81, 0x18, 2, 0, 0, 0, 3, 0, 0, 0, EMPTY, EMPTY, EMPTY);
+    NOTES(16, 1, 0, 1, 1, EMPTY, EMPTY, EMPTY, EMPTY, EMPTY, EMPTY);
+    NOTES(16, 0, 0, 1, 1, EMPTY, EMPTY, 10, 0, 0x80, 0x18, 0, 0, 0, 0, 0, 0, 0, 0, EMPTY, EMPTY, EMPTY);
+    NOTES(1, 0, 0, 0, 0, EMPTY, EMPTY, EMPTY, EMPTY, EMPTY, EMPTY);    /* counted, and told */
+    NOTES(1, 0, 0, 0, 0, EMPTY, EMPTY, 1, 0, 0, EMPTY, EMPTY, EMPTY);  /* counted, and full now */
+    NOTES(1, 0, 0, 0, 0, EMPTY, EMPTY, EMPTY, EMPTY, EMPTY, EMPTY);    /* full before */
 }
 
 static void notes_of_levels_and_bits(void)
 {
     memcpy(&k, &base, sizeof k);
-    NOTES(22, 1, 0, 0, 0, EMPTY, EMPTY, EMPTY, 1, 0, 8, EMPTY);
-    NOTES(22, 1, 0, 0, 0, EMPTY, EMPTY, EMPTY, EMPTY, EMPTY);
-    NOTES(8, 0, 0, 0, 0, EMPTY, EMPTY, EMPTY, EMPTY, EMPTY);
-    NOTES(10, 0, 0, 0, 0, 2, 0, 1, 2, EMPTY, EMPTY, EMPTY, EMPTY);
-    NOTES(11, 0, 0, 0, 0, EMPTY, EMPTY, EMPTY, EMPTY, EMPTY);
+    NOTES(22, 1, 0, 0, 0, EMPTY, EMPTY, EMPTY, 1, 0, 8, EMPTY, EMPTY);
+    NOTES(22, 1, 0, 0, 0, EMPTY, EMPTY, EMPTY, EMPTY, EMPTY, EMPTY);
+    NOTES(8, 0, 0, 0, 0, EMPTY, EMPTY, EMPTY, EMPTY, EMPTY, EMPTY);
+    NOTES(10, 0, 0, 0, 0, 2, 0, 1, 2, EMPTY, EMPTY, EMPTY, EMPTY, EMPTY);
+    NOTES(11, 0, 0, 0, 0, EMPTY, EMPTY, EMPTY, EMPTY, EMPTY, EMPTY);
     EXPECT(same(ask(2, 1, 0, 0, 0), 0, 7, 5));
-    NOTES(12, 0, 0, 0, 0, 2, 0, 4, 5, EMPTY, EMPTY, EMPTY, EMPTY); /* 7 runs now */
+    NOTES(12, 0, 0, 0, 0, 2, 0, 4, 5, EMPTY, EMPTY, EMPTY, EMPTY, EMPTY); /* 7 runs now */
 }
 
 static void notes_of_messages(void)
 {
     memcpy(&k, &base, sizeof k);
-    NOTES(24, 0, 1, 2, 3, EMPTY, EMPTY, EMPTY, EMPTY, 1, 0, 2);
-    NOTES(26, 2, 5, 9, 0, EMPTY, EMPTY, EMPTY, EMPTY, 1, 0, 2);
-    NOTES(27, 0, 256, 0, 0, EMPTY, EMPTY, EMPTY, EMPTY, 4, 0, 0x82, 0xc0, 9, 1); /* behind message 0 */
-    NOTES(25, 2, 0, 0, 0, EMPTY, EMPTY, EMPTY, EMPTY, 12, 0, 0x82, 0x38, 1, 0, 2, 0, 0, 0, 3, 0, 0, 0);
-    NOTES(3, 1, 0, 0, 0, EMPTY, 11, 0, 0xc1, 3, 0xcb, 5, 5, 9, 0, 0, 0, 3, 2, EMPTY, EMPTY,
+    NOTES(24, 0, 1, 2, 3, EMPTY, EMPTY, EMPTY, EMPTY, EMPTY, 1, 0, 2);
+    NOTES(26, 2, 5, 9, 0, EMPTY, EMPTY, EMPTY, EMPTY, EMPTY, 1, 0, 2);
+    NOTES(27, 0, 256, 0, 0, EMPTY, EMPTY, EMPTY, EMPTY, EMPTY, 4, 0, 0x82, 0xc0, 9, 1); /* behind message 0 */
+    NOTES(25, 2, 0, 0, 0, EMPTY, EMPTY, EMPTY, EMPTY, EMPTY, 12, 0, 0x82, 0x38, 1, 0, 2, 0, 0, 0, 3, 0, 0, 0);
+    NOTES(3, 1, 0, 0, 0, EMPTY, 11, 0, 0xc1, 3, 0xcb, 5, 5, 9, 0, 0, 0, 3, 2, EMPTY, EMPTY, EMPTY,
           12, 0, 0x81, 0x38, 1, 0, 2, 0, 0, 0, 3, 0, 0, 0); /* held */
-    NOTES(3, 2, 0, 0, 0, EMPTY, 9, 0, 0xc2, 2, 0x0b, 5, 5, 7, 0, 0, 0, EMPTY, EMPTY,
+    NOTES(3, 2, 0, 0, 0, EMPTY, 9, 0, 0xc2, 2, 0x0b, 5, 5, 7, 0, 0, 0, EMPTY, EMPTY, EMPTY,
           15, 0, 0x80, 0xfc, 1, 7, 0, 8, 0, 0, 0, 9, 0, 0, 0, 4, 0); /* queued, from another sender */
     memcpy(&k, &base, sizeof k);
     EXPECT(same(ask(24, 0, 0, 0, 0), 0, 2, 5));
-    NOTES(26, 2, 4, 1, 0, EMPTY, 4, 0, 0x84, 0x04, 5, 0, EMPTY, EMPTY, 1, 0, 2); /* 4 waited with mask 5 */
+    NOTES(26, 2, 4, 1, 0, EMPTY, 4, 0, 0x84, 0x04, 5, 0, EMPTY, EMPTY, EMPTY, 1, 0, 2); /* 4 waited with mask 5 */
 }
 
-/* A log with room for a note of 28 bytes, but for none of 29. */
+/* A log with room for a note of 30 bytes, but for none of 31. */
 static void full_log(void)
 {
     static struct log log;
     uint8_t r[RECORD];
     make_record(r, 2, 5, 0, 0, 0);
     make_fresh(&k);
-    log.used = LOG_LENGTH - 28;
-    EXPECT(same(call_noted(&k, r, &log), 13, 255, 255) && log.used == LOG_LENGTH - 28 && !k.threads[0].live);
+    log.used = LOG_LENGTH - 30;
+    EXPECT(same(call_noted(&k, r, &log), 13, 255, 255) && log.used == LOG_LENGTH - 30 && !k.threads[0].live);
     make_record(r, 1, 0, 0, 0, 0);
     EXPECT(same(call_noted(&k, r, &log), 0, 255, 255) && log.used == LOG_LENGTH && k.uptime == 1);
     EXPECT(same(call_noted(&k, r, &log), 13, 255, 255) && log.used == LOG_LENGTH && k.uptime == 1);
     undo_last(&k, &log);
-    EXPECT(k.uptime == 0 && log.used == LOG_LENGTH - 28);
-    log.used = LOG_LENGTH - 29;
+    EXPECT(k.uptime == 0 && log.used == LOG_LENGTH - 30);
+    log.used = LOG_LENGTH - 31;
     make_record(r, 2, 5, 0, 0, 0);
     EXPECT(same(call_noted(&k, r, &log), 0, 0, 0) && log.used == LOG_LENGTH);
+}
+
+/* ---- device flags ---- */
+
+/* 3, 0 and 1 wait for flag 0 in this order, 3 and 1 with timeouts, 4 for flag 1; 2 runs in a region, 5 is ready. */
+static void make_flag_base(void)
+{
+    make_fresh(&k);
+    EXPECT(same(ask(2, 5, 0, 0, 0), 0, 0, 0));
+    EXPECT(same(ask(2, 5, 0, 0, 0), 0, 1, 0));
+    EXPECT(same(ask(2, 9, 0, 0, 0), 0, 2, 0));
+    for (int f = 0; f < 3; f++)
+        EXPECT(same(ask(31, 0, 0, 0, 0), 0, f, 0));
+    EXPECT(same(ask(11, 0, 0, 0, 0), 0, 255, 0));
+    EXPECT(same(ask(33, 0, 0, 0, 0), 0, 255, 1));
+    EXPECT(same(ask(11, 0, 0, 0, 0), 0, 255, 1));
+    EXPECT(same(ask(33, 0, 0, 9, 0), 0, 255, 2));
+    EXPECT(same(ask(2, 3, 0, 0, 0), 0, 3, 3));
+    EXPECT(same(ask(11, 0, 0, 0, 0), 0, 255, 3));
+    EXPECT(same(ask(33, 0, 0, 4, 0), 0, 255, 2));
+    EXPECT(same(ask(2, 4, 0, 0, 0), 0, 4, 4));
+    EXPECT(same(ask(11, 0, 0, 0, 0), 0, 255, 4));
+    EXPECT(same(ask(33, 1, 0, 0, 0), 0, 255, 2));
+    EXPECT(same(ask(2, 9, 0, 0, 0), 0, 5, 2));
+    EXPECT(same(ask(11, 0, 0, 0, 0), 0, 255, 2));
+    memcpy(&base, &k, sizeof k);
+}
+
+static int holds(const struct queue *q, int length, const uint8_t *ids)
+{
+    return q->length == length && memcmp(q->place, ids, (size_t)length) == 0;
+}
+#define HOLDS(queue, ...) EXPECT(holds(&(queue), sizeof (uint8_t[]){ __VA_ARGS__ }, (uint8_t[]){ __VA_ARGS__ }))
+
+static void flag_queues(void)
+{
+    struct queue *q = k.flag_waiters;
+    BREAKS(memset(&q[1], 0, sizeof q[1]));
+    BREAKS(q[0].place[q[0].length++] = 1);           /* twice */
+    BREAKS(q[2].place[q[2].length++] = 1);           /* in a second queue */
+    BREAKS(q[15].place[q[15].length++] = 4);         /* be its flag live or not */
+    BREAKS(q[0].place[q[0].length++] = 5);           /* a ready one */
+    BREAKS(q[0].place[q[0].length++] = 20);          /* one that isn't live */
+    BREAKS(k.ready[4].place[k.ready[4].length++] = 4);
+    BREAKS(k.semaphore_waiters[1].place[k.semaphore_waiters[1].length++] = 4);
+    BREAKS(k.event_waiters[1].place[k.event_waiters[1].length++] = 4);
+    BREAKS(q[0].place[0] = 0, q[0].place[1] = 3);    /* priority 5 before 3 */
+    KEEPS(q[0].place[1] = 1, q[0].place[2] = 0);     /* equal priorities */
+    BREAKS(q[0].length = 33);
+    BREAKS(q[0].place[0] = 32);
+    BREAKS(q[0].place[3] = 1);                       /* unused store */
+    BREAKS(q[15].place[31] = 1);
+    BREAKS(k.flags[1].live = 0);
+    BREAKS(k.threads[4].object = 5, q[5] = q[1], memset(&q[1], 0, sizeof q[1])); /* waits for one that isn't live */
+    KEEPS(k.threads[4].object = 2, q[2] = q[1], memset(&q[1], 0, sizeof q[1]));
+    BREAKS(k.threads[4].object = 16);
+    BREAKS(k.threads[4].object = 257);
+}
+
+static void flag_fields(void)
+{
+    struct queue *time = &k.time_queue;
+    KEEPS(k.flags[2].live = 0);
+    KEEPS(k.flags[15].live = 1);
+    BREAKS(k.flags[15].live = 2);
+    BREAKS(k.flags[0].live = 255);
+    BREAKS(k.threads[4].ticks_left = 10);
+    BREAKS(time->place[time->length++] = 4);
+    KEEPS(k.threads[4].ticks_left = 10, time->place[time->length++] = 4);
+    BREAKS(k.threads[3].ticks_left = 0);
+    BREAKS(k.threads[3].ticks_left = 10);            /* 10 before 9 */
+    BREAKS(time->place[1] = 0, time->length = 1);    /* 1 is timed */
+    KEEPS(k.threads[5].wake_reason = TIMED_OUT, k.threads[5].timed_out_kind = WAITS_FLAG);
+    BREAKS(k.threads[5].wake_reason = MET, k.threads[5].timed_out_kind = WAITS_FLAG);
+    BREAKS(k.running = 4);
+}
+
+/* The answer, on the base with these levels; a refusal leaves the state. */
+static int answers(uint8_t unscheduled, uint8_t critical, uint8_t kind, uint8_t a, int number, int value, int runner)
+{
+    static struct kernel before;
+    memcpy(&k, &base, sizeof k);
+    k.unscheduled = unscheduled;
+    k.critical = critical;
+    memcpy(&before, &k, sizeof k);
+    return same(ask(kind, a, 0, 0, 0), number, value, runner) && (number == 0 || states_are_equal(&before, &k));
+}
+
+static void flag_levels(void)
+{
+    const uint8_t levels[] = { 0, 1, 2, 255 };
+    for (int i = 0; i < 16; i++) {
+        uint8_t u = levels[i / 4], c = levels[i % 4];
+        int passes = u == 0 && c == 1, free = u == 0 && c == 0;
+        EXPECT(answers(u, c, 33, 2, passes ? 0 : 6, 255, passes ? 5 : 2));
+        EXPECT(!passes || (k.unscheduled == 0 && k.critical == 0));
+        EXPECT(answers(u, c, 33, 0, passes ? 0 : 6, 255, passes ? 5 : 2));
+        EXPECT(answers(u, c, 33, 3, 4, 255, 2));     /* before 6 */
+        EXPECT(answers(u, c, 33, 16, 4, 255, 2));
+        EXPECT(answers(u, c, 31, 0, 0, 3, 2));
+        EXPECT(answers(u, c, 32, 2, 0, 255, 2));
+        EXPECT(answers(u, c, 32, 0, 10, 255, 2));
+        EXPECT(answers(u, c, 32, 3, 4, 255, 2));
+        EXPECT(answers(u, c, 34, 0, 0, 255, free ? 3 : 2));
+        EXPECT(k.flag_waiters[0].length == 0 && k.unscheduled == u && k.critical == c);
+        EXPECT(answers(u, c, 34, 255, 4, 255, 2));
+        EXPECT(answers(u, c, 35, 0, 1, 255, 2));
+    }
+}
+
+static void flag_refusals(void)
+{
+    make_fresh(&k);
+    for (uint8_t kind = 31; kind <= 34; kind++)
+        EXPECT(same(ask(kind, 0, 0, 0, 0), 2, 255, 255));
+    memcpy(&k, &base, sizeof k);
+    EXPECT(same(ask(31, 1, 0, 0, 0), 1, 255, 2) && same(ask(31, 0, 0, 1, 0), 1, 255, 2));
+    EXPECT(same(ask(32, 2, 1, 0, 0), 1, 255, 2) && same(ask(32, 2, 0, 1, 0), 1, 255, 2));
+    EXPECT(same(ask(33, 2, 1, 0, 0), 1, 255, 2) && same(ask(33, 2, 0, 0, 1), 1, 255, 2));
+    EXPECT(same(ask(34, 2, 0, 1, 0), 1, 255, 2) && same(ask(34, 2, 0, 0, 1), 1, 255, 2));
+    for (int f = 3; f < FLAGS; f++)
+        EXPECT(same(ask(31, 0, 0, 0, 0), 0, f, 2));
+    EXPECT(same(ask(31, 0, 0, 0, 0), 7, 255, 2));
+    EXPECT(same(ask(32, 15, 0, 0, 0), 0, 255, 2) && same(ask(32, 15, 0, 0, 0), 4, 255, 2));
+    EXPECT(same(ask(32, 2, 0, 0, 0), 0, 255, 2) && same(ask(31, 0, 0, 0, 0), 0, 2, 2));
+}
+
+/* What a pend leaves of its caller, and a post, a time-out, a destroy and a change of priority of a flag's waiters. */
+static void flag_waiters(void)
+{
+    const struct thread *t = k.threads;
+    memcpy(&k, &base, sizeof k);
+    HOLDS(k.flag_waiters[0], 3, 0, 1);
+    k.threads[2].wake_reason = MET;
+    k.threads[2].reply = 7;
+    EXPECT(same(ask(33, 2, 0, 7, 0), 0, 255, 5));
+    EXPECT(t[2].condition == WAITS_FLAG && t[2].object == 2 && t[2].ticks_left == 7);
+    EXPECT(t[2].wake_reason == REASON_NONE && t[2].reply == NONE);
+    HOLDS(k.time_queue, 3, 2, 1);
+    EXPECT(same(ask(34, 0, 0, 0, 0), 0, 255, 3) && k.flag_waiters[0].length == 0);
+    EXPECT(t[1].wake_reason == MET && t[1].timed_out_kind == 0 && t[1].ticks_left == 0 && t[1].reply == NONE);
+    HOLDS(k.ready[5], 0, 1);
+    HOLDS(k.time_queue, 2);
+    memcpy(&k, &base, sizeof k);
+    EXPECT(same(ask(5, 0, 0, 0, 0), 0, 255, 2)); /* to its own priority: behind 1 */
+    HOLDS(k.flag_waiters[0], 3, 1, 0);
+    EXPECT(same(ask(4, 0, 2, 0, 0), 0, 255, 2));
+    HOLDS(k.flag_waiters[0], 0, 3, 1);
+    EXPECT(same(ask(12, 0, 0, 0, 0), 0, 255, 2));
+    for (int i = 1; i <= 4; i++)
+        EXPECT(same(ask(1, 0, 0, 0, 0), 0, 255, i < 4 ? 2 : 3));
+    EXPECT(t[3].wake_reason == TIMED_OUT && t[3].timed_out_kind == WAITS_FLAG && t[3].object == 0);
+    HOLDS(k.flag_waiters[0], 0, 1);
+    EXPECT(same(ask(3, 1, 0, 0, 0), 0, 255, 3) && k.time_queue.length == 0);
+    HOLDS(k.flag_waiters[0], 0);
+}
+
+static void flag_counts(void)
+{
+    COUNTS(0, 0, 0, 1, ask(31, 0, 0, 0, 0));
+    COUNTS(0, 0, 0, 1, ask(32, 2, 0, 0, 0));
+    COUNTS(1, 0, 0, 0, ask(33, 2, 0, 0, 0));
+    COUNTS(3, 0, 0, 0, ask(34, 0, 0, 0, 0));
+    COUNTS(0, 0, 0, 0, ask(34, 2, 0, 0, 0));
+    EXPECT(states_are_equal(&k, &base));
+    memcpy(&k, &base, sizeof k);
+    k.flags[15].live = 1;
+    EXPECT(!states_are_equal(&k, &base));
+    memcpy(&k, &base, sizeof k);
+    k.flag_waiters[0].place[1] = 1, k.flag_waiters[0].place[2] = 0;
+    EXPECT(!states_are_equal(&k, &base));
+}
+
+static void notes_of_flags(void)
+{
+    memcpy(&k, &base, sizeof k);
+    NOTES(31, 0, 0, 0, 0, EMPTY, EMPTY, EMPTY, EMPTY, 1, 0, 3, EMPTY);
+    NOTES(32, 3, 0, 0, 0, EMPTY, EMPTY, EMPTY, EMPTY, EMPTY, EMPTY); /* the call tells it */
+    NOTES(34, 2, 0, 0, 0, EMPTY, EMPTY, EMPTY, EMPTY, EMPTY, EMPTY);
+    NOTES(34, 0, 0, 0, 0, EMPTY, 19, 0, 0x80, 0x40, 3, 0x81, 0xc8, 9, 0, 0, 0, 4, 1, 0x83, 0xc8, 4, 0, 0, 0, 2, 0,
+          EMPTY, EMPTY, EMPTY, EMPTY); /* the queue was 3, 0, 1, behind two ready ones */
+    memcpy(&k, &base, sizeof k);
+    NOTES(34, 1, 0, 0, 0, EMPTY, 3, 0, 0x84, 0x40, 5, EMPTY, EMPTY, EMPTY, EMPTY); /* behind flag 0's too */
+    NOTES(33, 2, 0, 0, 0, 2, 0, 4, 2, 4, 0, 0x82, 0x50, 0, 1, EMPTY, EMPTY, EMPTY, EMPTY); /* 4 stood before it */
+    NOTES(3, 2, 0, 0, 0, EMPTY, 7, 0, 0xc2, 6, 0x47, 9, 9, 2, 5, EMPTY, EMPTY, EMPTY, EMPTY);
+}
+
+/* Time-outs, and what moves a waiter. */
+static void notes_of_flag_waiters(void)
+{
+    memcpy(&k, &base, sizeof k);
+    NOTES(4, 4, 4, 0, 0, EMPTY, 3, 0, 0x84, 0x40, 5, EMPTY, EMPTY, EMPTY, EMPTY); /* the same priority */
+    NOTES(4, 3, 6, 0, 0, EMPTY, 5, 0, 0x83, 0xc1, 3, 2, 0, EMPTY, EMPTY, EMPTY, EMPTY);
+    NOTES(5, 3, 0, 0, 0, EMPTY, 5, 0, 0x83, 0xc1, 6, 4, 0, EMPTY, EMPTY, EMPTY, EMPTY);
+    NOTES(3, 1, 0, 0, 0, EMPTY, 11, 0, 0xc1, 6, 0xcb, 5, 5, 9, 0, 0, 0, 4, 1, EMPTY, EMPTY, EMPTY, EMPTY);
+    memcpy(&k, &base, sizeof k);
+    NOTES(12, 0, 0, 0, 0, EMPTY, EMPTY, EMPTY, EMPTY, EMPTY, EMPTY);
+    for (int i = 1; i <= 3; i++)
+        NOTES(1, 0, 0, 0, 0, EMPTY, EMPTY, EMPTY, EMPTY, EMPTY, EMPTY);
+    NOTES(1, 0, 0, 0, 0, EMPTY, 3, 0, 0x83, 0x40, 2, EMPTY, EMPTY, EMPTY, EMPTY); /* 3 timed out */
+    NOTES(11, 0, 0, 0, 0, EMPTY, EMPTY, EMPTY, EMPTY, EMPTY, EMPTY);
+    NOTES(33, 2, 0, 1, 0, 2, 0, 4, 3, 3, 0, 0x83, 0x10, 5, EMPTY, EMPTY, EMPTY, EMPTY); /* it had timed out */
+    NOTES(1, 0, 0, 0, 0, EMPTY, 4, 0, 0x83, 0x44, 2, 5, EMPTY, EMPTY, EMPTY, EMPTY); /* on flag 2 */
+}
+
+/* The second example of docs/LAYOUT.md: all of the last note is as predicted. */
+static void notes_of_flag_example(void)
+{
+    make_fresh(&k);
+    EXPECT(same(ask(2, 3, 0, 0, 0), 0, 0, 0));
+    EXPECT(same(ask(2, 5, 0, 0, 0), 0, 1, 0));
+    NOTES(31, 0, 0, 0, 0, EMPTY, EMPTY, EMPTY, EMPTY, 1, 0, 0, EMPTY);
+    NOTES(11, 0, 0, 0, 0, EMPTY, EMPTY, EMPTY, EMPTY, EMPTY, EMPTY);
+    NOTES(33, 0, 0, 0, 0, 2, 0, 4, 0, 3, 0, 0x80, 0x10, 0, EMPTY, EMPTY, EMPTY, EMPTY);
+    NOTES(34, 0, 0, 0, 0, EMPTY, 1, 0, 0, EMPTY, EMPTY, EMPTY, EMPTY);
 }
 
 int main(void)
@@ -422,6 +637,16 @@ int main(void)
     message_counts();
     ticks();
     reasons();
+    make_flag_base();
+    flag_queues();
+    flag_fields();
+    flag_levels();
+    flag_refusals();
+    flag_waiters();
+    flag_counts();
+    notes_of_flags();
+    notes_of_flag_waiters();
+    notes_of_flag_example();
     printf("unit %d checks, %d failures\n", checks, failures);
     return failures != 0;
 }
