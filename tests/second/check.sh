@@ -17,7 +17,7 @@ program="main.c both.c replay.c rules.c notes.c undo.c"
 gcc $flags -O2 -o "$work/second" $program
 gcc $flags -O2 -DNDEBUG -o "$work/quick" $program
 gcc $flags $sanitize -o "$work/careful" $program
-gcc $flags $sanitize -o "$work/unit" unit.c replay.c rules.c notes.c undo.c
+gcc $flags $sanitize -o "$work/unit" unit.c unit_flags.c replay.c rules.c notes.c undo.c
 echo "built plain, quick (no asserts) and careful (sanitizers)"
 
 "$work/unit" || fail unit
