@@ -25,7 +25,7 @@ FAMILIES = {
     'flags': {1: 14, 2: 5, 3: 2, 4: 5, 5: 3, 6: 3, 7: 4, 8: 3, 11: 4, 12: 2, 18: 3, 19: 3, 21: 3, 22: 3,
               26: 3, 27: 3, 31: 6, 32: 10, 33: 40, 34: 16},
 }
-# Of so many calls the next is a push of the critical level with a flag's pend behind it.
+# How often a family pushes the critical level with a flag's pend behind it, which passes nowhere else.
 FLAG_PENDS = {'flags': 0.2, 'mixed': 0.03, 'ticks': 0.02, 'priorities': 0.02}
 # Refusals that a family brings about on purpose; the kinds that can give each.
 SUITABLE = {
