@@ -9,19 +9,24 @@ import sys
 sys.dont_write_bytecode = True  # leaves the tree as it is
 import logs_edges  # noqa: E402
 import logs_samples  # noqa: E402
-from logs_model import EVENT, MESSAGE, NONE, READY, SEMAPHORE, Model, pack, record, records  # noqa: E402
+from logs_model import EVENT, FLAG, MESSAGE, NONE, READY, SEMAPHORE, Model, pack, record, records  # noqa: E402
 
 # Weights of the kinds that a family is about; every other kind has weight 1.
 FAMILIES = {
     'mixed': {1: 14, 2: 6, 3: 2, 4: 4, 5: 3, 6: 4, 7: 5, 8: 3, 11: 3, 14: 3, 16: 3, 17: 2, 18: 10,
-              19: 8, 20: 4, 21: 8, 22: 6, 23: 6, 24: 8, 25: 3, 26: 12, 27: 10, 28: 5, 29: 4, 30: 4},
+              19: 8, 20: 4, 21: 8, 22: 6, 23: 6, 24: 8, 25: 3, 26: 12, 27: 10, 28: 5, 29: 4, 30: 4,
+              31: 3, 32: 2, 33: 6, 34: 8},
     'ticks': {1: 70, 2: 6, 7: 20, 16: 8, 17: 4, 18: 12, 21: 8, 27: 8},
     'semaphores': {1: 10, 2: 4, 14: 8, 15: 4, 16: 5, 17: 4, 18: 35, 19: 25, 28: 12},
     'messages': {1: 8, 2: 4, 24: 20, 25: 8, 26: 35, 27: 30},
     'events': {1: 8, 2: 4, 20: 20, 21: 30, 22: 18, 23: 18, 29: 10, 30: 10},
     'priorities': {1: 8, 2: 12, 3: 6, 4: 35, 5: 20, 6: 15, 7: 6, 18: 8, 19: 6, 21: 5},
     'regions': {1: 8, 2: 4, 8: 20, 9: 15, 10: 5, 11: 20, 12: 15, 13: 5, 18: 8, 19: 8, 22: 4, 6: 4},
+    'flags': {1: 14, 2: 5, 3: 2, 4: 5, 5: 3, 6: 3, 7: 4, 8: 3, 11: 4, 12: 2, 18: 3, 19: 3, 21: 3, 22: 3,
+              26: 3, 27: 3, 31: 6, 32: 10, 33: 40, 34: 16},
 }
+# How often a family pushes the critical level with a flag's pend behind it, which passes nowhere else.
+FLAG_PENDS = {'flags': 0.2, 'mixed': 0.03, 'ticks': 0.02, 'priorities': 0.02}
 # Refusals that a family brings about on purpose; the kinds that can give each.
 SUITABLE = {
     'mixed': range(1, 13),
@@ -31,10 +36,12 @@ SUITABLE = {
     'events': (1, 2, 3, 4, 5, 6),
     'priorities': (1, 2, 4, 5, 6, 7),
     'regions': (1, 2, 3, 4, 5, 6, 7, 11),
+    'flags': (1, 2, 3, 4, 5, 6, 7, 10),
 }
-GIVERS = {1: range(256), 2: range(3, 28), 3: (1, 28, 29, 30), 4: range(3, 31),
-          5: (2, 4, 7, 14, 16, 20, 26, 27), 6: (3, 6, 7, 18, 21, 27), 7: (2, 8, 11, 14, 24),
-          8: (25, 26), 9: (25, 26), 10: (15,), 11: (9, 10, 12, 13), 12: (17,)}
+THREAD_CALLS = [*range(3, 28), *range(31, 35)]
+GIVERS = {1: range(256), 2: THREAD_CALLS, 3: (1, 28, 29, 30), 4: THREAD_CALLS + [28, 29, 30],
+          5: (2, 4, 7, 14, 16, 20, 26, 27), 6: (3, 6, 7, 18, 21, 27, 33), 7: (2, 8, 11, 14, 24, 31),
+          8: (25, 26), 9: (25, 26), 10: (15, 32), 11: (9, 10, 12, 13), 12: (17,)}
 SPOILS = (0, 1, 8, 16, 31, 32, 64, 255, 256, 32768, 65535, 65536, 2**32 - 1)
 WIDTHS = (256, 256, 65536, 2**32, 2**32, 2**32)
 
@@ -87,6 +94,13 @@ class Generator:
         return self.mostly(sorted(wanted), 18, 98) if wanted and self.rng.random() < 0.6 \
             else self.mostly(m.semaphores, 18)
 
+    def flag(self, kind):
+        """Pends and posts prefer those with waiters, destroys those without."""
+        waited = {t.object for t in self.model.threads.values() if t.condition == FLAG}
+        wanted = self.model.flags - waited if kind == 32 else waited
+        return self.rng.choice(sorted(wanted)) if wanted and self.rng.random() < 0.6 \
+            else self.mostly(sorted(self.model.flags), 18)
+
     def bit(self):
         """Half of the time a bit that some waiter's event looks at."""
         m, mask = self.model, 0
@@ -114,6 +128,8 @@ class Generator:
             return (self.semaphore(kind), 0) + times
         if kind in (22, 23, 29, 30):
             return (self.bit(),)
+        if kind in (32, 33, 34):
+            return self.flag(kind), 0, self.timeout() if kind == 33 else 0
         if kind == 20:
             return self.mostly(range(4), 10), self.mostly((0, 1), 3), self.bit_mask(), self.bit_mask()
         if kind == 26:
@@ -145,13 +161,15 @@ class Generator:
             return w * (0.2 if more < 0 else 4 if more > 4 else 1)
         if kind == 14:
             return w * (6 if len(m.semaphores) < 3 else 1)
+        if kind == 31:
+            return w * (4 if len(m.flags) < 3 else 1)
         if 8 <= kind <= 13 and deep:
             return w * (0.4 if kind in (8, 11) else 3 if self.family == 'regions' else 15)
         return w
 
     def pick(self, wanted):
         """A call that the model answers with that number, or None if none came up."""
-        kinds = list(GIVERS[wanted]) if wanted else list(range(1, 31))
+        kinds = list(GIVERS[wanted]) if wanted else list(range(1, 35))
         weights = None if wanted else [self.weight(k) for k in kinds]
         for _ in range(60):
             kind = self.rng.choices(kinds, weights)[0]
@@ -173,14 +191,15 @@ class Generator:
         """Creates until 7 comes, then makes room again."""
         while self.model.runner != NONE and self.emit(record(kind, *self.room_fields(kind))) == 0:
             pass
-        store = {2: self.model.threads, 14: self.model.semaphores, 24: self.model.messages}[kind]
+        m = self.model
+        store = {2: m.threads, 14: m.semaphores, 24: m.messages, 31: m.flags}[kind]
         for i in self.rng.sample(sorted(store), len(store) // 2):
             if i != self.model.runner:
-                self.emit(record({2: 3, 14: 15, 24: 25}[kind], i))
+                self.emit(record({2: 3, 14: 15, 24: 25, 31: 32}[kind], i))
 
     @staticmethod
     def room_fields(kind):
-        return {2: (30,), 14: (0, 0, 3), 24: (0, 1, 2, 3)}[kind]
+        return {2: (30,), 14: (0, 0, 3), 24: (0, 1, 2, 3), 31: ()}[kind]
 
     def deepen(self, kind):
         """Pushes until 7 comes, then pops."""
@@ -222,7 +241,8 @@ class Generator:
             self.due = [self.idle, self.blocked]
             if 3 in SUITABLE[self.family]:
                 self.due.append(self.interrupted)
-            kinds = {'mixed': (2, 14, 24), 'semaphores': (14,), 'messages': (24,), 'priorities': (2,)}
+            kinds = {'mixed': (2, 14, 24, 31), 'semaphores': (14,), 'messages': (24,), 'priorities': (2,),
+                     'flags': (31,)}
             self.due += [lambda k=k: self.fill(k) for k in kinds.get(self.family, ())]
             if 11 in SUITABLE[self.family]:
                 self.due.append(lambda: self.deepen(self.rng.choice((8, 11))))
@@ -231,9 +251,20 @@ class Generator:
 
     # ---- the whole log ----
 
+    def pend_flag(self):
+        """The critical level is pushed, now and then something else comes, and the pend takes it off."""
+        if self.model.runner == NONE or any(self.model.levels) or not self.model.flags:
+            return self.emit(self.pick(0) or record(1))
+        self.emit(record(11))
+        if self.rng.random() < 0.2:
+            self.emit(self.pick(0) or record(11))
+        self.emit(record(33, *self.fields(33)))
+
     def one(self):
         if self.rng.random() < 0.005:
             self.episode()
+        elif self.rng.random() < FLAG_PENDS.get(self.family, 0):
+            self.pend_flag()
         elif self.rng.random() < 0.12:
             self.emit(self.pick(self.rng.choice(SUITABLE[self.family])) or record(1))
         else:
@@ -254,7 +285,7 @@ def senseless(seed, count):
     rng = random.Random(f'senseless {seed}')
     data = bytearray(rng.randbytes(16 * count))
     for i in range(0, len(data), 32):
-        data[i] &= 31
+        data[i] %= 35
         for j in range(i + 1, i + 16):
             data[j] &= -(rng.random() < 0.1) & 255
     return bytes(data)

@@ -1,17 +1,18 @@
-"""A light model of document 01's kernel that drives logs.py.
+"""A light model of the kernel of documents 01 and 02 that drives logs.py.
 
 It has stamps where a kernel has queues (smallest priority and stamp first), so it shares no idea
 with the C replay; it knows answers only: no wake reasons, replies, senders, sizes or addresses.
 """
 import struct
 
-READY, ASLEEP, SEMAPHORE, EVENT, MESSAGE = range(5)
+READY, ASLEEP, SEMAPHORE, EVENT, MESSAGE, FLAG = range(6)
 NONE = 255
 INTERRUPTS = (1, 28, 29, 30)
 BOOT = (2, 14, 20)
 USED = {1: '', 2: 'a', 3: 'a', 4: 'ab', 5: 'a', 6: '', 7: 'c', 8: '', 9: '', 10: '', 11: '', 12: '',
         13: '', 14: 'bc', 15: 'a', 16: 'acd', 17: 'a', 18: 'ac', 19: 'a', 20: 'abcd', 21: 'ac',
-        22: 'a', 23: 'a', 24: 'bcd', 25: 'a', 26: 'abc', 27: 'bc', 28: 'a', 29: 'a', 30: 'a'}
+        22: 'a', 23: 'a', 24: 'bcd', 25: 'a', 26: 'abc', 27: 'bc', 28: 'a', 29: 'a', 30: 'a',
+        31: '', 32: 'a', 33: 'ac', 34: 'a'}
 
 
 def record(kind, a=0, b=0, c=0, d=0, e=0):
@@ -37,6 +38,7 @@ class Model:
     def __init__(self):
         self.threads, self.semaphores, self.messages = {}, {}, {}
         self.events = [(1, 0, 0)] * 8
+        self.flags = set()
         self.bits = self.uptime = self.clock = 0
         self.levels = [0, 0]
         self.runner = NONE
@@ -80,12 +82,17 @@ class Model:
             return a > 7
         if kind in (22, 23, 29, 30):
             return a > 31
+        if kind in (32, 33, 34):
+            return a not in self.flags
         return kind in (25, 26) and a not in self.messages or kind == 26 and b not in self.threads
 
     def stops(self, r):
-        """Whether the call blocks, sleeps, yields or destroys the caller."""
+        """Whether a level forbids the call: it blocks, sleeps, yields or destroys the caller."""
         kind, a, b = r[:3]
-        return (kind in (6, 7) or kind == 3 and a == self.runner
+        if kind == 33:  # asks for one level, the critical one, and takes it off
+            return self.levels != [0, 1]
+        return any(self.levels) and (
+                kind in (6, 7) or kind == 3 and a == self.runner
                 or kind == 18 and self.semaphores[a][0] == 0
                 or kind == 21 and not self.is_true(a) or kind == 27 and not self.queued(b))
 
@@ -105,16 +112,17 @@ class Model:
             return 9
         if kind in (25, 26) and self.messages[a][0] != self.runner:
             return 8
-        if kind == 15 and self.standing(SEMAPHORE, a):
+        if kind == 15 and self.standing(SEMAPHORE, a) or kind == 32 and self.standing(FLAG, a):
             return 10
         if kind == 17 and not self.semaphores[a][3]:
             return 12
         if kind in (9, 10) and not self.levels[0] or kind in (12, 13) and not self.levels[1]:
             return 11
-        if any(self.levels) and self.stops(r):
+        if self.stops(r):
             return 6
         full = {2: len(self.threads) == 32, 14: len(self.semaphores) == 16,
-                24: len(self.messages) == 64, 8: self.levels[0] == 255, 11: self.levels[1] == 255}
+                24: len(self.messages) == 64, 31: len(self.flags) == 16,
+                8: self.levels[0] == 255, 11: self.levels[1] == 255}
         return 7 if full.get(kind) else 0
 
     # ---- what accepted calls do ----
@@ -193,6 +201,21 @@ class Model:
             return found[0]
         return NONE
 
+    def change_flag(self, kind, a, c):
+        if kind == 31:
+            new = min(set(range(16)) - self.flags)
+            self.flags.add(new)
+            return new
+        if kind == 32:
+            self.flags.remove(a)
+        elif kind == 33:
+            self.levels[1] -= 1
+            self.block(FLAG, a, c)
+        else:
+            for i in self.standing(FLAG, a):
+                self.wake(i)
+        return NONE
+
     def carry_out(self, r):
         kind, a, b, c, d, _ = r
         if kind == 1:
@@ -229,6 +252,8 @@ class Model:
             del self.messages[a]
         elif kind == 26:
             self.post_message(a, b, c)
+        elif kind > 30:
+            return self.change_flag(kind, a, c)
         return NONE
 
     def call(self, r):

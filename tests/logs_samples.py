@@ -1,6 +1,6 @@
-"""Document 01's sample runs, and some of its traps, with the answers worked out by hand.
+"""Document 01's sample runs, some of its traps, and runs of document 02's flags, with the answers worked out by hand.
 
-Each line is one record and the number, value and runner that document 01 asks for. Left out:
+Each line is one record and the number, value and runner that the documents ask for. Left out:
 "Uptime 4,294,967,295, then a tick", whose start state no log of this length reaches, and trap 3,
 which is about undo.
 """
@@ -148,6 +148,101 @@ SAMPLES = {
         (r(23, 1), PLAIN),
         (r(8), PLAIN),
         (r(21, 0), '6 255 0')], 0),
+    'flag_levels': ([  # a pend passes with critical level 1 and unscheduled level 0, and then takes it off
+        (r(31), '2 255 255'),        # not a call of boot
+        (r(2, 5), '0 0 0'),
+        (r(31), '0 0 0'),
+        (r(33, 0), '6 255 0'),       # (unscheduled, critical) = (0, 0)
+        (r(33, 1), '4 255 0'),       # before 6
+        (r(11), PLAIN),
+        (r(11), PLAIN),
+        (r(33, 0), '6 255 0'),       # (0, 2)
+        (r(12), PLAIN),
+        (r(8), PLAIN),
+        (r(33, 0), '6 255 0'),       # (1, 1)
+        (r(12), PLAIN),
+        (r(33, 0), '6 255 0'),       # (1, 0)
+        (r(9), PLAIN),
+        (r(11), PLAIN),
+        (r(33, 0, c=1), '0 255 255'),  # (0, 1)
+        (r(1), PLAIN),               # not refused with 3: the level is off
+        (r(12), '11 255 0')], 1),
+    'flag_waiters': ([  # all wake in queue order, the timed one too: by priority, then by arrival
+        (r(2, 5), '0 0 0'),
+        (r(2, 5), '0 1 0'),
+        (r(2, 9), '0 2 0'),
+        (r(31), '0 0 0'),
+        (r(6), '0 255 1'),
+        (r(11), '0 255 1'),
+        (r(33, 0), '0 255 0'),       # 1 waits
+        (r(2, 3), '0 3 3'),
+        (r(11), '0 255 3'),
+        (r(33, 0, c=2), '0 255 0'),  # 3 before 1, for two ticks
+        (r(11), PLAIN),
+        (r(33, 0), '0 255 2'),       # 0 behind 1
+        (r(1), '0 255 2'),
+        (r(34, 0), '0 255 3'),
+        (r(1), '0 255 3'),           # the old timeout would end here
+        (r(7, c=9), '0 255 1'),
+        (r(3, 1), PLAIN),
+        (r(34, 0), PLAIN)], 2),      # nobody waits
+    'flag_time_out': ([  # the first waiter times out, the other waits on
+        (r(2, 5), '0 0 0'),
+        (r(2, 4), '0 1 1'),
+        (r(2, 6), '0 2 1'),
+        (r(31), '0 0 1'),
+        (r(11), '0 255 1'),
+        (r(33, 0, c=2), '0 255 0'),
+        (r(11), PLAIN),
+        (r(33, 0), '0 255 2'),
+        (r(1), '0 255 2'),
+        (r(1), '0 255 1'),
+        (r(7, c=5), '0 255 2'),
+        (r(32, 0), '10 255 2'),
+        (r(34, 0), PLAIN),           # wakes 0, and not the sleeper
+        (r(32, 0), PLAIN)], 2),
+    'flag_with_waiter': ([
+        (r(2, 3), '0 0 0'),
+        (r(2, 5), '0 1 0'),
+        (r(31), '0 0 0'),
+        (r(31), '0 1 0'),
+        (r(11), PLAIN),
+        (r(33, 1), '0 255 1'),
+        (r(32, 1), '10 255 1'),
+        (r(32, 0), '0 255 1'),
+        (r(34, 0), '4 255 1'),
+        (r(31), '0 0 1'),            # its id again
+        (r(34, 1), PLAIN),
+        (r(32, 1), PLAIN),
+        (r(11), PLAIN),
+        (r(33, 1), '4 255 0')], 0),
+    'flag_17': (
+        [(r(2, 5), '0 0 0')] + [(r(31), f'0 {i} 0') for i in range(16)] + [
+            (r(31), '7 255 0'),
+            (r(34, 16), '4 255 0'),
+            (r(32, 9), PLAIN),
+            (r(31), '0 9 0')], 0),
+    'flag_post_in_region': ([  # the poster runs on
+        (r(2, 3), '0 0 0'),
+        (r(2, 5), '0 1 0'),
+        (r(31), '0 0 0'),
+        (r(11), PLAIN),
+        (r(33, 0), '0 255 1'),
+        (r(8), '0 255 1'),
+        (r(34, 0), '0 255 1'),
+        (r(9), PLAIN)], 0),
+    'flag_same_priority': ([  # a waiter too goes behind its equals
+        (r(2, 5), '0 0 0'),
+        (r(2, 5), '0 1 0'),
+        (r(2, 9), '0 2 0'),
+        (r(31), '0 0 0'),
+        (r(11), PLAIN),
+        (r(33, 0), '0 255 1'),
+        (r(11), '0 255 1'),
+        (r(33, 0), '0 255 2'),
+        (r(4, 0, 5), '0 255 2'),
+        (r(34, 0), '0 255 1'),
+        (r(6), PLAIN)], 0),
 }
 
 

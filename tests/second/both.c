@@ -63,11 +63,11 @@ static void add_note(size_t start, uint8_t runner)
     done.notes[done.count++] = (struct note){ start, runner };
 }
 
-/* Document 01's limits, counted from the two states; `now` has taken the call, `before` is the state before it. */
+/* The documents' limits, counted from the two states; `now` has taken the call, `before` is the state before it. */
 static int length_is_right(size_t length)
 {
     struct counts n = count_differences(&before, &now);
-    size_t longest = 96 + 24 * (size_t)n.T + 16 * (size_t)n.S + 16 * (size_t)n.M;
+    size_t longest = 96 + 24 * (size_t)n.T + 16 * (size_t)n.S + 16 * (size_t)n.M + 8 * (size_t)n.F;
     if (length >= SHORTEST_NOTE && length <= longest)
         return 1;
     printf("differ at line %llu: a note of %d to %zu bytes, not of %zu\n", line.number, SHORTEST_NOTE, longest, length);

@@ -17,7 +17,7 @@ program="main.c both.c replay.c rules.c notes.c undo.c"
 gcc $flags -O2 -o "$work/second" $program
 gcc $flags -O2 -DNDEBUG -o "$work/quick" $program
 gcc $flags $sanitize -o "$work/careful" $program
-gcc $flags $sanitize -o "$work/unit" unit.c replay.c rules.c notes.c undo.c
+gcc $flags $sanitize -o "$work/unit" unit.c unit_flags.c replay.c rules.c notes.c undo.c
 echo "built plain, quick (no asserts) and careful (sanitizers)"
 
 "$work/unit" || fail unit
@@ -64,11 +64,12 @@ suitable() {
     events) echo 1 2 3 4 5 6 ;;
     priorities) echo 1 2 4 5 6 7 ;;
     regions) echo 1 2 3 4 5 6 7 11 ;;
+    flags) echo 1 2 3 4 5 6 7 10 ;;
     senseless) echo 1 2 ;;
     esac
 }
 
-for family in mixed ticks semaphores messages events priorities regions senseless; do
+for family in mixed ticks semaphores messages events priorities regions flags senseless; do
     for seed in $(seq "$seeds"); do
         $logs $family $seed $count > "$work/$family.$seed"
         compare $family.$seed
@@ -97,7 +98,7 @@ differs() {
 }
 
 $logs ticks 7 42000 > "$work/long" # more than its notes' log can hold
-for log in mixed.1 ticks.1 semaphores.1 messages.1 events.1 priorities.1 regions.1 senseless.1 edges long; do
+for log in mixed.1 ticks.1 semaphores.1 messages.1 events.1 priorities.1 regions.1 flags.1 senseless.1 edges long; do
     build=careful
     case $log in edges | long) build=second ;; esac # long ones in the quicker build
     notes $log $build

@@ -19,7 +19,7 @@ def number(log, at):
 def note_end(log, at):
     """Where the note that begins at `at` ends; None where it isn't one."""
     end = at + 16
-    for _ in range(5):
+    for _ in range(6):
         end += 2 + number(log, end)
     return end + 2 if end + 2 <= len(log) and number(log, end) == end + 2 - at else None
 

@@ -29,7 +29,7 @@ static int index_in(const struct queue *q, uint8_t id)
     return found ? (int)(found - q->place) : NONE;
 }
 
-/* In `places`: the ready lists, then the semaphores' queues, then the events'. */
+/* In `places`: the ready lists, then the semaphores' queues, then the events', then the flags'. */
 static int place_now(const struct kernel *k, uint8_t id)
 {
     const struct thread *t = &k->threads[id];
@@ -41,7 +41,10 @@ static int place_now(const struct kernel *k, uint8_t id)
     if (t->condition == WAITS_SEMAPHORE)
         return front + total(k->semaphore_waiters, t->object) + index_in(&k->semaphore_waiters[t->object], id);
     front += total(k->semaphore_waiters, SEMAPHORES);
-    return front + total(k->event_waiters, t->object) + index_in(&k->event_waiters[t->object], id);
+    if (t->condition == WAITS_EVENT)
+        return front + total(k->event_waiters, t->object) + index_in(&k->event_waiters[t->object], id);
+    front += total(k->event_waiters, EVENTS);
+    return front + total(k->flag_waiters, t->object) + index_in(&k->flag_waiters[t->object], id);
 }
 
 /* In `posted`: the channels by owner, then by number. */
@@ -77,6 +80,7 @@ static void begin_touched(struct touched *t, const struct kernel *k, const uint8
     t->bits = k->bits;
     t->thread_ids = t->semaphore_ids = t->event_ids = 0;
     t->message_ids = 0;
+    t->flag_made = NONE;
     t->woken = t->places.count = t->time.count = 0;
 }
 
@@ -108,6 +112,11 @@ void touch_event(struct touched *t, const struct kernel *k, uint8_t id)
 {
     t->events[id] = k->events[id];
     t->event_ids |= (uint32_t)1 << id;
+}
+
+void touch_flag(struct touched *t, uint8_t id)
+{
+    t->flag_made = id;
 }
 
 void touch_message(struct touched *t, const struct kernel *k, uint8_t id)
@@ -156,7 +165,7 @@ void aged_back(struct semaphore *s)
 
 /* ---- what is predicted ---- */
 
-/* The wake reason's byte: with a timeout the waiter's condition, 2 to 4. */
+/* The wake reason's byte: with a timeout the waiter's condition, 2 to 5. */
 static uint8_t reason_code(const struct thread *t)
 {
     return t->wake_reason == TIMED_OUT ? t->timed_out_kind : t->wake_reason;
@@ -166,7 +175,7 @@ void predict_scheduler(uint32_t *row, const uint8_t *record, const struct kernel
 {
     int kind = record[0];
     row[0] = (uint32_t)(after->unscheduled - (kind == 8) + (kind == 9));
-    row[1] = (uint32_t)(after->critical - (kind == 11) + (kind == 12));
+    row[1] = (uint32_t)(after->critical - (kind == 11) + (kind == 12 || kind == 33));
     row[2] = after->running;
 }
 
@@ -179,6 +188,7 @@ int predict_code(const uint8_t *record, const struct thread *after)
     case 19: case 28: return WAITED_SEMAPHORE;
     case 20: case 22: case 23: case 29: case 30: return WAITED_EVENT;
     case 26: return WAITED_MESSAGE;
+    case 34: return WAITED_FLAG;
     default: return WAS_READY;
     }
 }
@@ -190,12 +200,14 @@ void predict_thread(uint32_t *row, const uint8_t *record, int code, const struct
     int blocks = code == WAS_READY && after->condition != READY;
     row[0] = code == NOT_LIVE ? 0 : after->priority;
     row[1] = code == NOT_LIVE ? 0 : after->first_priority;
-    row[2] = code < WAITED_SEMAPHORE ? 0 : kind == 19 || kind == 28 ? record[1]
+    row[2] = code < WAITED_SEMAPHORE ? 0 : kind == 19 || kind == 28 || kind == 34 ? record[1]
         : code == WAITED_MESSAGE ? after->object : after->object % 256u;
     row[3] = !blocked ? 0 : kind == 1 ? 1 : after->ticks_left;
     row[4] = woken ? REASON_NONE : blocks ? MET : reason_code(after);
     row[5] = code == NOT_LIVE ? 0 : woken || !after->live ? NONE : after->reply;
-    row[6] = code == WAS_READY || code == WAITED_SEMAPHORE || code == WAITED_EVENT ? 0 : NONE;
+    row[6] = code == WAS_READY || code == WAITED_SEMAPHORE || code == WAITED_EVENT || code == WAITED_FLAG ? 0 : NONE;
+    if (kind == 34)
+        row[6] = 1; /* behind the poster */
     row[7] = code == WAS_ASLEEP || (kind == 1 && blocked) ? 0 : NONE;
 }
 
@@ -353,6 +365,15 @@ static uint8_t *put_events(uint8_t *start, const struct kernel *k, const struct 
     return end_section(start, p);
 }
 
+/* The flag that the call made; one that it destroyed is its a. */
+static uint8_t *put_flags(uint8_t *start, const struct touched *t)
+{
+    uint8_t *p = start + 2;
+    if (t->flag_made != NONE)
+        *p++ = t->flag_made;
+    return end_section(start, p);
+}
+
 static uint8_t *put_messages(uint8_t *start, const uint8_t *record, const struct kernel *k, const struct touched *t)
 {
     uint8_t *p = start + 2;
@@ -375,6 +396,7 @@ size_t write_note(uint8_t *note, const uint8_t record[RECORD], const struct kern
     p = put_threads(p, record, k, t);
     p = put_semaphores(p, record, k, t);
     p = put_events(p, k, t);
+    p = put_flags(p, t);
     p = put_messages(p, record, k, t);
     size_t length = (size_t)(p - note) + 2;
     put(p, 2, (uint32_t)length);

@@ -6,7 +6,7 @@
 
 #include "replay.h"
 
-enum { LOG_LENGTH = 1048576, SHORTEST_NOTE = 28, LONGEST_NOTE = 2048, FIELDS = 8 };
+enum { LOG_LENGTH = 1048576, SHORTEST_NOTE = 30, LONGEST_NOTE = 2048, FIELDS = 8 };
 
 /* ---- what a call touches, as it was before the call ---- */
 
@@ -33,7 +33,8 @@ struct touched {
     uint32_t bits;
     uint32_t thread_ids, semaphore_ids, event_ids;
     uint64_t message_ids;
-    int woken; /* threads touched so far */
+    uint8_t flag_made; /* NONE where the call makes none */
+    int woken;         /* threads touched so far */
     struct leavers places, time;
     struct touched_thread threads[THREADS];
     struct semaphore semaphores[SEMAPHORES];
@@ -48,6 +49,7 @@ extern struct touched *touched;
 void touch_thread(struct touched *t, const struct kernel *k, uint8_t id);
 void touch_semaphore(struct touched *t, const struct kernel *k, uint8_t id);
 void touch_event(struct touched *t, const struct kernel *k, uint8_t id);
+void touch_flag(struct touched *t, uint8_t id); /* one that is made */
 void touch_message(struct touched *t, const struct kernel *k, uint8_t id); /* a held or a free one */
 /* The first one on a channel (1..15) of its owner. */
 void touch_queued(struct touched *t, const struct kernel *k, uint8_t id, int channel);
@@ -66,7 +68,7 @@ extern const struct layout scheduler_layout, thread_layout, receiver_layout, sem
 enum { HEAD_ID = 63, HEAD_CODE = 64, HEAD_FIELDS = 128 };
 
 /* What a thread's condition was. */
-enum code { NOT_LIVE, WAS_READY, WAS_ASLEEP, WAITED_SEMAPHORE, WAITED_EVENT, WAITED_MESSAGE };
+enum code { NOT_LIVE, WAS_READY, WAS_ASLEEP, WAITED_SEMAPHORE, WAITED_EVENT, WAITED_MESSAGE, WAITED_FLAG };
 
 /* The record before a tick, as far as ageing explains it; this serves the writer and the reader, as the next ones do. */
 void aged_back(struct semaphore *s);

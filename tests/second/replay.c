@@ -1,4 +1,4 @@
-/* Forward meaning of the thirty call kinds (document 01, "What each call does" and "What comes back"). */
+/* Forward meaning of the call kinds (document 01, "What each call does", "What comes back"; document 02, request 1). */
 #include <assert.h>
 #include <string.h>
 
@@ -13,7 +13,8 @@ struct record {
 
 /* Used fields and caller class of each kind; no other flag means that the running thread calls. */
 enum { A = 1, B = 2, C = 4, D = 8, INTERRUPT = 16, BOOT = 32, KNOWN = 64 };
-static const uint8_t kinds[31] = {
+enum { LAST_KIND = 34 };
+static const uint8_t kinds[LAST_KIND + 1] = {
     [1] = KNOWN | INTERRUPT, [2] = KNOWN | BOOT | A, [3] = KNOWN | A, [4] = KNOWN | A | B,
     [5] = KNOWN | A, [6] = KNOWN, [7] = KNOWN | C, [8] = KNOWN, [9] = KNOWN, [10] = KNOWN,
     [11] = KNOWN, [12] = KNOWN, [13] = KNOWN, [14] = KNOWN | BOOT | B | C, [15] = KNOWN | A,
@@ -21,6 +22,7 @@ static const uint8_t kinds[31] = {
     [20] = KNOWN | BOOT | A | B | C | D, [21] = KNOWN | A | C, [22] = KNOWN | A, [23] = KNOWN | A,
     [24] = KNOWN | B | C | D, [25] = KNOWN | A, [26] = KNOWN | A | B | C, [27] = KNOWN | B | C,
     [28] = KNOWN | INTERRUPT | A, [29] = KNOWN | INTERRUPT | A, [30] = KNOWN | INTERRUPT | A,
+    [31] = KNOWN, [32] = KNOWN | A, [33] = KNOWN | A | C, [34] = KNOWN | A,
 };
 
 static uint32_t four_bytes(const uint8_t *p)
@@ -69,6 +71,8 @@ static struct queue *waiting_queue(struct kernel *k, uint8_t t)
         return &k->semaphore_waiters[th->object];
     if (th->condition == WAITS_EVENT)
         return &k->event_waiters[th->object];
+    if (th->condition == WAITS_FLAG)
+        return &k->flag_waiters[th->object];
     return 0; /* sleepers and message waiters stand in no such queue */
 }
 
@@ -321,6 +325,32 @@ static void change_bit(struct kernel *k, uint8_t bit, int set)
     work_out_events(k);
 }
 
+/* ---- device flags ---- */
+
+static uint8_t create_flag(struct kernel *k)
+{
+    uint8_t f = 0;
+    while (k->flags[f].live)
+        f++;
+    if (touched)
+        touch_flag(touched, f);
+    k->flags[f].live = 1;
+    return f;
+}
+
+/* The level that it takes off is the only one held, so the scheduler chooses afterwards. */
+static void pend_flag(struct kernel *k, uint8_t f, uint32_t timeout)
+{
+    k->critical = 0;
+    block(k, WAITS_FLAG, f, timeout);
+}
+
+static void post_flag(struct kernel *k, uint8_t f)
+{
+    while (k->flag_waiters[f].length > 0)
+        wake(k, k->flag_waiters[f].place[0], MET);
+}
+
 /* ---- messages ---- */
 
 static uint8_t create_message(struct kernel *k, const struct record *r)
@@ -393,7 +423,7 @@ static int is_queued(const struct kernel *k, uint8_t m)
 
 static int is_number_1(const struct record *r)
 {
-    uint8_t use = r->kind <= 30 ? kinds[r->kind] : 0;
+    uint8_t use = r->kind <= LAST_KIND ? kinds[r->kind] : 0;
     return !(use & KNOWN) || (!(use & A) && r->a) || (!(use & B) && r->b)
         || (!(use & C) && r->c) || (!(use & D) && r->d) || r->e;
 }
@@ -423,6 +453,11 @@ static int semaphore_lives(const struct kernel *k, uint32_t id)
     return id < SEMAPHORES && k->semaphores[id].live;
 }
 
+static int flag_lives(const struct kernel *k, uint32_t id)
+{
+    return id < FLAGS && k->flags[id].live;
+}
+
 static int message_lives(const struct kernel *k, uint32_t id)
 {
     return id < MESSAGES && k->messages[id].live;
@@ -443,9 +478,17 @@ static int is_number_4(const struct kernel *k, const struct record *r)
         return !message_lives(k, r->a);
     case 26:
         return !message_lives(k, r->a) || !thread_lives(k, r->b);
+    case 32: case 33: case 34:
+        return !flag_lives(k, r->a);
     default:
         return 0;
     }
+}
+
+static int is_number_10(const struct kernel *k, const struct record *r)
+{
+    return (r->kind == 15 && k->semaphore_waiters[r->a].length > 0)
+        || (r->kind == 32 && k->flag_waiters[r->a].length > 0);
 }
 
 static int is_number_11(const struct kernel *k, const struct record *r)
@@ -456,6 +499,8 @@ static int is_number_11(const struct kernel *k, const struct record *r)
 
 static int is_number_6(struct kernel *k, const struct record *r)
 {
+    if (r->kind == 33) /* a rule of its own: from inside one critical region, and no other */
+        return k->critical != 1 || k->unscheduled != 0;
     if (k->unscheduled == 0 && k->critical == 0)
         return 0;
     switch (r->kind) {
@@ -486,6 +531,10 @@ static int is_number_7(const struct kernel *k, const struct record *r)
         for (int i = 0; i < MESSAGES; i++)
             live += k->messages[i].live;
         return live == MESSAGES;
+    case 31:
+        for (int i = 0; i < FLAGS; i++)
+            live += k->flags[i].live;
+        return live == FLAGS;
     default: return 0;
     }
 }
@@ -507,7 +556,7 @@ static uint8_t refusal(struct kernel *k, const struct record *r)
         return 9;
     if ((r->kind == 25 || r->kind == 26) && k->messages[r->a].owner != k->running)
         return 8;
-    if (r->kind == 15 && k->semaphore_waiters[r->a].length > 0)
+    if (is_number_10(k, r))
         return 10;
     if (r->kind == 17 && k->semaphores[r->a].period == 0)
         return 12;
@@ -551,6 +600,10 @@ static uint8_t carry_out(struct kernel *k, const struct record *r)
     case 25: destroy_message(k, r->a); break;
     case 26: post_message(k, r->a, (uint8_t)r->b, r->c); break;
     case 27: return pend_message(k, r->b, r->c);
+    case 31: return create_flag(k);
+    case 32: k->flags[r->a].live = 0; break;
+    case 33: pend_flag(k, r->a, r->c); break;
+    case 34: post_flag(k, r->a); break;
     }
     return NONE;
 }

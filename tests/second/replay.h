@@ -1,4 +1,4 @@
-/* The second replay: document 01's kernel written once more in plain C, to be compared with the proved one. */
+/* The second replay: the kernel of documents 01 and 02 once more, in plain C, to be compared with the proved one. */
 #ifndef REPLAY_H
 #define REPLAY_H
 
@@ -6,20 +6,20 @@
 
 enum {
     THREADS = 32, PRIORITIES = 30, SEMAPHORES = 16, EVENTS = 8,
-    BITS = 32, MESSAGES = 64, CHANNELS = 15, RECORD = 16, NONE = 255
+    BITS = 32, FLAGS = 16, MESSAGES = 64, CHANNELS = 15, RECORD = 16, NONE = 255
 };
 
-enum condition { READY, ASLEEP, WAITS_SEMAPHORE, WAITS_EVENT, WAITS_MESSAGE };
+enum condition { READY, ASLEEP, WAITS_SEMAPHORE, WAITS_EVENT, WAITS_MESSAGE, WAITS_FLAG };
 enum wake_reason { REASON_NONE, MET, TIMED_OUT };
 enum mode { MODE_ALL, MODE_ANY };
 
 struct thread {
     uint8_t live, priority, first_priority;
     uint8_t condition;      /* enum condition */
-    uint16_t object;        /* semaphore id, event id or channel mask waited for, else 0 */
+    uint16_t object;        /* id of the semaphore, event or flag, or channel mask, waited for; else 0 */
     uint32_t ticks_left;
     uint8_t wake_reason;    /* enum wake_reason */
-    uint8_t timed_out_kind; /* with TIMED_OUT: WAITS_SEMAPHORE, _EVENT or _MESSAGE, else 0 */
+    uint8_t timed_out_kind; /* with TIMED_OUT: WAITS_SEMAPHORE, _EVENT, _MESSAGE or _FLAG, else 0 */
     uint8_t reply;          /* message id or NONE */
 };
 
@@ -32,6 +32,11 @@ struct semaphore {
 struct event {
     uint8_t mode; /* enum mode */
     uint32_t mask, values;
+};
+
+/* A device flag (document 02, request 1). */
+struct flag {
+    uint8_t live;
 };
 
 struct message {
@@ -61,6 +66,8 @@ struct kernel {
     struct queue semaphore_waiters[SEMAPHORES];
     struct event events[EVENTS];
     struct queue event_waiters[EVENTS];
+    struct flag flags[FLAGS];
+    struct queue flag_waiters[FLAGS];
     struct message messages[MESSAGES];
 };
 
@@ -70,7 +77,7 @@ struct answer {
 
 /* How many records differ between two states. */
 struct counts {
-    int T, S, M;
+    int T, S, M, F;
 };
 
 void make_fresh(struct kernel *k);

@@ -1,4 +1,4 @@
-/* The state rules of document 01, one function for each group; what differs between two states. */
+/* The state rules of documents 01 and 02, one function for each group; what differs between two states. */
 #include <string.h>
 
 #include "replay.h"
@@ -34,6 +34,9 @@ static int stores_are_whole(const struct kernel *k)
     for (int e = 0; e < EVENTS; e++)
         if (!queue_is_whole(&k->event_waiters[e]))
             return 0;
+    for (int f = 0; f < FLAGS; f++)
+        if (!queue_is_whole(&k->flag_waiters[f]))
+            return 0;
     for (int t = 0; t < THREADS; t++)
         for (int c = 0; c < CHANNELS; c++) {
             const struct channel *ch = &k->channels[t][c];
@@ -62,11 +65,11 @@ static int dead_thread_is_zero(const struct thread *t)
 static int reason_is_whole(const struct thread *t)
 {
     if (t->wake_reason == TIMED_OUT)
-        return t->timed_out_kind >= WAITS_SEMAPHORE && t->timed_out_kind <= WAITS_MESSAGE;
+        return t->timed_out_kind >= WAITS_SEMAPHORE && t->timed_out_kind <= WAITS_FLAG;
     return t->wake_reason <= MET && t->timed_out_kind == 0;
 }
 
-/* The condition's object lies in its size and, for a semaphore, is live. */
+/* The condition's object lies in its size and, for a semaphore or a flag, is live. */
 static int condition_is_whole(const struct kernel *k, const struct thread *t)
 {
     switch (t->condition) {
@@ -74,6 +77,7 @@ static int condition_is_whole(const struct kernel *k, const struct thread *t)
     case WAITS_SEMAPHORE: return t->object < SEMAPHORES && k->semaphores[t->object].live;
     case WAITS_EVENT: return t->object < EVENTS;
     case WAITS_MESSAGE: return t->object >= 1 && t->object <= 32767;
+    case WAITS_FLAG: return t->object < FLAGS && k->flags[t->object].live;
     default: return 0;
     }
 }
@@ -106,6 +110,7 @@ static int has_its_place(const struct kernel *k, int t)
     case READY: return places_of(&k->ready[th->priority], t) == 1;
     case WAITS_SEMAPHORE: return places_of(&k->semaphore_waiters[th->object], t) == 1;
     case WAITS_EVENT: return places_of(&k->event_waiters[th->object], t) == 1;
+    case WAITS_FLAG: return places_of(&k->flag_waiters[th->object], t) == 1;
     default: return 1;
     }
 }
@@ -163,7 +168,7 @@ static int time_queue_keeps(const struct kernel *k)
     return 1;
 }
 
-/* ---- semaphores and events ---- */
+/* ---- semaphores, events and flags ---- */
 
 static int semaphores_keep(const struct kernel *k)
 {
@@ -191,6 +196,18 @@ static int events_keep(const struct kernel *k)
         if (k->events[e].mode > MODE_ANY || !waiting_queue_keeps(k, q, WAITS_EVENT, e))
             return 0;
         if (q->length > 0 && event_is_true(k, e))
+            return 0;
+    }
+    return 1;
+}
+
+static int flags_keep(const struct kernel *k)
+{
+    for (int f = 0; f < FLAGS; f++) {
+        const struct queue *q = &k->flag_waiters[f];
+        if (k->flags[f].live > 1 || !waiting_queue_keeps(k, q, WAITS_FLAG, f))
+            return 0;
+        if (!k->flags[f].live && q->length > 0)
             return 0;
     }
     return 1;
@@ -257,7 +274,7 @@ int keeps_rules(const struct kernel *k)
 {
     return stores_are_whole(k) && thread_fields_keep(k) && threads_have_places(k)
         && ready_lists_hold_no_other(k) && time_queue_keeps(k) && semaphores_keep(k)
-        && events_keep(k) && message_fields_keep(k) && channels_keep(k)
+        && events_keep(k) && flags_keep(k) && message_fields_keep(k) && channels_keep(k)
         && message_waiters_keep(k) && running_keeps(k);
 }
 
@@ -286,13 +303,15 @@ static int messages_differ(const struct message *x, const struct message *y)
 
 struct counts count_differences(const struct kernel *before, const struct kernel *after)
 {
-    struct counts n = { 0, 0, 0 };
+    struct counts n = { 0, 0, 0, 0 };
     for (int i = 0; i < THREADS; i++)
         n.T += threads_differ(&before->threads[i], &after->threads[i]);
     for (int i = 0; i < SEMAPHORES; i++)
         n.S += semaphores_differ(&before->semaphores[i], &after->semaphores[i]);
     for (int i = 0; i < MESSAGES; i++)
         n.M += messages_differ(&before->messages[i], &after->messages[i]);
+    for (int i = 0; i < FLAGS; i++)
+        n.F += before->flags[i].live != after->flags[i].live;
     return n;
 }
 
@@ -302,7 +321,8 @@ static int same_places(const struct kernel *x, const struct kernel *y)
         && memcmp(&x->time_queue, &y->time_queue, sizeof x->time_queue) == 0
         && memcmp(x->channels, y->channels, sizeof x->channels) == 0
         && memcmp(x->semaphore_waiters, y->semaphore_waiters, sizeof x->semaphore_waiters) == 0
-        && memcmp(x->event_waiters, y->event_waiters, sizeof x->event_waiters) == 0;
+        && memcmp(x->event_waiters, y->event_waiters, sizeof x->event_waiters) == 0
+        && memcmp(x->flag_waiters, y->flag_waiters, sizeof x->flag_waiters) == 0;
 }
 
 int states_are_equal(const struct kernel *x, const struct kernel *y)
@@ -312,7 +332,7 @@ int states_are_equal(const struct kernel *x, const struct kernel *y)
         if (x->events[e].mode != y->events[e].mode || x->events[e].mask != y->events[e].mask
             || x->events[e].values != y->events[e].values)
             return 0;
-    return n.T == 0 && n.S == 0 && n.M == 0 && same_places(x, y) && x->uptime == y->uptime
+    return n.T == 0 && n.S == 0 && n.M == 0 && n.F == 0 && same_places(x, y) && x->uptime == y->uptime
         && x->unscheduled == y->unscheduled && x->critical == y->critical
         && x->running == y->running && x->bits == y->bits;
 }

@@ -97,6 +97,8 @@ static void add_places(struct table *t, const struct kernel *k)
         add_queue(t, k->semaphore_waiters[s].place, k->semaphore_waiters[s].length);
     for (int e = 0; e < EVENTS; e++)
         add_queue(t, k->event_waiters[e].place, k->event_waiters[e].length);
+    for (int f = 0; f < FLAGS; f++)
+        add_queue(t, k->flag_waiters[f].place, k->flag_waiters[f].length);
 }
 
 /* Each list again from the table: a record tells its list. */
@@ -105,10 +107,12 @@ static void deal_places(struct kernel *k, const struct table *t)
     memset(k->ready, 0, sizeof k->ready);
     memset(k->semaphore_waiters, 0, sizeof k->semaphore_waiters);
     memset(k->event_waiters, 0, sizeof k->event_waiters);
+    memset(k->flag_waiters, 0, sizeof k->flag_waiters);
     for (int i = 0; i < t->length; i++) {
         const struct thread *th = &k->threads[t->place[i]];
         struct queue *q = th->condition == READY ? &k->ready[th->priority]
-            : th->condition == WAITS_SEMAPHORE ? &k->semaphore_waiters[th->object] : &k->event_waiters[th->object];
+            : th->condition == WAITS_SEMAPHORE ? &k->semaphore_waiters[th->object]
+            : th->condition == WAITS_EVENT ? &k->event_waiters[th->object] : &k->flag_waiters[th->object];
         append(q->place, &q->length, t->place[i]);
     }
 }
@@ -186,6 +190,15 @@ static void undo_events(struct kernel *k, const uint8_t *record, struct section 
     }
 }
 
+/* A destroyed flag is named by the call, one that was made by the section. */
+static void undo_flags(struct kernel *k, const uint8_t *record, struct section s)
+{
+    if (record[0] == 32)
+        k->flags[record[1]].live = 1;
+    if (s.at < s.end)
+        k->flags[*s.at].live = 0;
+}
+
 /* ---- messages ---- */
 
 /* The table `posted`, and the channel of each message in it. */
@@ -253,6 +266,7 @@ void undo_last(struct kernel *k, struct log *log)
     undo_threads(k, record, next_section(&next));
     undo_semaphores(k, record, next_section(&next));
     undo_events(k, record, next_section(&next));
+    undo_flags(k, record, next_section(&next));
     undo_messages(k, record, runner, next_section(&next));
     k->unscheduled = (uint8_t)row[0];
     k->critical = (uint8_t)row[1];

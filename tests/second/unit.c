@@ -1,18 +1,18 @@
-/* States made by hand: what keeps_rules must refuse and accept, number 14, the counts T, S and M, and some notes. */
+/* States made by hand: what keeps_rules must refuse and accept, number 14, the counts T, S, M and F, and some notes. */
 #include <stdio.h>
 #include <string.h>
 
-#include "notes.h"
+#include "unit.h"
 
-static struct kernel base, k;
+struct kernel base, k;
 static int failures, checks;
 
-static void expect(int holds, const char *what, int line)
+void expect(int holds, const char *what, const char *file, int line)
 {
     checks++;
     if (!holds) {
         failures++;
-        printf("unit.c:%d: %s\n", line, what);
+        printf("%s:%d: %s\n", file, line, what);
     }
 }
 
@@ -25,34 +25,25 @@ static void make_record(uint8_t r[RECORD], uint8_t kind, uint8_t a, uint16_t b, 
     }
 }
 
-static struct answer ask(uint8_t kind, uint8_t a, uint16_t b, uint32_t c, uint32_t d)
+struct answer ask(uint8_t kind, uint8_t a, uint16_t b, uint32_t c, uint32_t d)
 {
     uint8_t r[RECORD];
     make_record(r, kind, a, b, c, d);
     return call(&k, r);
 }
 
-static int same(struct answer x, int number, int value, int runner)
+int same(struct answer x, int number, int value, int runner)
 {
     return x.number == number && x.value == value && x.runner == runner;
 }
 
 /* A damaged state gives 14 and stays as it is. */
-static int gives_14(void)
+int gives_14(void)
 {
     static struct kernel damaged;
     memcpy(&damaged, &k, sizeof k);
     return same(ask(1, 0, 0, 0, 0), 14, 255, 255) && memcmp(&damaged, &k, sizeof k) == 0;
 }
-
-#define EXPECT(condition) expect(condition, #condition, __LINE__)
-#define BREAKS(...) do { memcpy(&k, &base, sizeof k); __VA_ARGS__; \
-    expect(!keeps_rules(&k) && gives_14(), "should break: " #__VA_ARGS__, __LINE__); } while (0)
-#define KEEPS(...) do { memcpy(&k, &base, sizeof k); __VA_ARGS__; \
-    expect(keeps_rules(&k), "should keep: " #__VA_ARGS__, __LINE__); } while (0)
-#define COUNTS(t, s, m, ...) do { memcpy(&k, &base, sizeof k); EXPECT((__VA_ARGS__).number == 0); \
-    struct counts n = count_differences(&base, &k); \
-    expect(n.T == t && n.S == s && n.M == m, "counts of " #__VA_ARGS__, __LINE__); } while (0)
 
 /* 0 and 1 wait for semaphore 0, 2 sleeps, 3 waits for event 0, 4 for messages, 5 runs in a region, 6 is ready. */
 static void make_base(void)
@@ -143,7 +134,7 @@ static void thread_fields(void)
     BREAKS(k.threads[6].priority = 6);
     BREAKS(k.threads[6].first_priority = 0);
     BREAKS(k.threads[6].first_priority = 31);
-    BREAKS(k.threads[4].condition = 5);
+    BREAKS(k.threads[4].condition = 6);
     BREAKS(k.threads[6].object = 1);
     BREAKS(k.threads[2].object = 1);
     BREAKS(k.threads[4].object = 0);
@@ -153,7 +144,7 @@ static void thread_fields(void)
     BREAKS(k.threads[6].wake_reason = 3);
     BREAKS(k.threads[6].wake_reason = TIMED_OUT);
     BREAKS(k.threads[6].wake_reason = TIMED_OUT, k.threads[6].timed_out_kind = ASLEEP);
-    BREAKS(k.threads[6].wake_reason = TIMED_OUT, k.threads[6].timed_out_kind = 5);
+    BREAKS(k.threads[6].wake_reason = TIMED_OUT, k.threads[6].timed_out_kind = 6);
     BREAKS(k.threads[6].wake_reason = MET, k.threads[6].timed_out_kind = WAITS_EVENT);
     BREAKS(k.threads[6].reply = 64);
     KEEPS(k.threads[6].reply = 63);
@@ -220,24 +211,24 @@ static void running(void)
 
 static void counts(void)
 {
-    COUNTS(0, 0, 0, ask(8, 0, 0, 0, 0));
-    COUNTS(1, 0, 0, ask(2, 9, 0, 0, 0));
-    COUNTS(0, 1, 0, ask(14, 0, 0, 1, 0));
-    COUNTS(0, 0, 1, ask(24, 0, 0, 0, 0));
-    COUNTS(3, 1, 0, ask(1, 0, 0, 0, 0));
-    COUNTS(1, 0, 0, ask(19, 0, 0, 0, 0));  /* wakes and leaves the count */
-    COUNTS(0, 0, 0, ask(19, 1, 0, 0, 0));  /* at the maximum */
-    COUNTS(0, 1, 0, ask(18, 1, 0, 0, 0));
-    COUNTS(0, 1, 0, ask(15, 1, 0, 0, 0));
-    COUNTS(0, 0, 0, ask(16, 1, 0, 5, 3));
-    COUNTS(0, 1, 0, ask(17, 1, 0, 0, 0));
-    COUNTS(0, 0, 0, ask(4, 5, 6, 0, 0));
-    COUNTS(1, 0, 0, ask(4, 0, 9, 0, 0));
-    COUNTS(0, 0, 0, ask(5, 1, 0, 0, 0));
-    COUNTS(1, 0, 1, ask(3, 1, 0, 0, 0));
-    COUNTS(1, 0, 1, ask(3, 2, 0, 0, 0));
-    COUNTS(0, 0, 0, ask(22, 1, 0, 0, 0));
-    COUNTS(1, 0, 0, ask(20, 0, 0, 0, 0)); /* mode all with mask 0 wakes thread 3 */
+    COUNTS(0, 0, 0, 0, ask(8, 0, 0, 0, 0));
+    COUNTS(1, 0, 0, 0, ask(2, 9, 0, 0, 0));
+    COUNTS(0, 1, 0, 0, ask(14, 0, 0, 1, 0));
+    COUNTS(0, 0, 1, 0, ask(24, 0, 0, 0, 0));
+    COUNTS(3, 1, 0, 0, ask(1, 0, 0, 0, 0));
+    COUNTS(1, 0, 0, 0, ask(19, 0, 0, 0, 0));  /* wakes and leaves the count */
+    COUNTS(0, 0, 0, 0, ask(19, 1, 0, 0, 0));  /* at the maximum */
+    COUNTS(0, 1, 0, 0, ask(18, 1, 0, 0, 0));
+    COUNTS(0, 1, 0, 0, ask(15, 1, 0, 0, 0));
+    COUNTS(0, 0, 0, 0, ask(16, 1, 0, 5, 3));
+    COUNTS(0, 1, 0, 0, ask(17, 1, 0, 0, 0));
+    COUNTS(0, 0, 0, 0, ask(4, 5, 6, 0, 0));
+    COUNTS(1, 0, 0, 0, ask(4, 0, 9, 0, 0));
+    COUNTS(0, 0, 0, 0, ask(5, 1, 0, 0, 0));
+    COUNTS(1, 0, 1, 0, ask(3, 1, 0, 0, 0));
+    COUNTS(1, 0, 1, 0, ask(3, 2, 0, 0, 0));
+    COUNTS(0, 0, 0, 0, ask(22, 1, 0, 0, 0));
+    COUNTS(1, 0, 0, 0, ask(20, 0, 0, 0, 0)); /* mode all with mask 0 wakes thread 3 */
 }
 
 /* Post to oneself by the sender and the pend that takes it change no record. */
@@ -246,12 +237,12 @@ static void message_counts(void)
     memcpy(&k, &base, sizeof k);
     EXPECT(same(ask(24, 0, 0, 0, 0), 0, 2, 5));
     memcpy(&base, &k, sizeof k);
-    COUNTS(1, 0, 1, ask(26, 2, 4, 3, 0)); /* thread 4 waits on channel 3 */
+    COUNTS(1, 0, 1, 0, ask(26, 2, 4, 3, 0)); /* thread 4 waits on channel 3 */
     EXPECT(k.threads[4].reply == 2 && k.threads[4].wake_reason == MET && k.messages[2].owner == 4);
-    COUNTS(0, 0, 1, ask(26, 2, 4, 2, 0)); /* but not on channel 2 */
-    COUNTS(0, 0, 0, ask(26, 2, 5, 2, 0));
+    COUNTS(0, 0, 1, 0, ask(26, 2, 4, 2, 0)); /* but not on channel 2 */
+    COUNTS(0, 0, 0, 0, ask(26, 2, 5, 2, 0));
     memcpy(&base, &k, sizeof k);
-    COUNTS(0, 0, 0, ask(27, 0, 2, 0, 0));
+    COUNTS(0, 0, 0, 0, ask(27, 0, 2, 0, 0));
 }
 
 /* Uptime 4,294,967,295, then a tick; and the reasons that a long sleep and two timeouts leave. */
@@ -298,13 +289,7 @@ static void reasons(void)
 
 /* ---- notes, worked out by hand from docs/LAYOUT.md ---- */
 
-#define EMPTY 0, 0
-/* The call's note has just these sections, and leads back. */
-#define NOTES(kind, a, b, c, d, ...) expect( \
-    notes_as((uint8_t[]){ __VA_ARGS__ }, sizeof (uint8_t[]){ __VA_ARGS__ }, kind, a, b, c, d), \
-    "note of " #kind ": " #__VA_ARGS__, __LINE__)
-
-static int notes_as(const uint8_t *sections, size_t n, uint8_t kind, uint8_t a, uint16_t b, uint32_t c, uint32_t d)
+int notes_as(const uint8_t *sections, size_t n, uint8_t kind, uint8_t a, uint16_t b, uint32_t c, uint32_t d)
 {
     static struct log log;
     static struct kernel before, after;
@@ -324,15 +309,15 @@ static int notes_as(const uint8_t *sections, size_t n, uint8_t kind, uint8_t a, 
 static void notes_of_threads(void)
 {
     make_fresh(&k);
-    NOTES(2, 5, 0, 0, 0, EMPTY, 1, 0, 0, EMPTY, EMPTY, EMPTY); /* was all zero */
+    NOTES(2, 5, 0, 0, 0, EMPTY, 1, 0, 0, EMPTY, EMPTY, EMPTY, EMPTY); /* was all zero */
     memcpy(&k, &base, sizeof k);
-    NOTES(19, 0, 0, 0, 0, EMPTY, 8, 0, 0x80, 0xc8, 9, 0, 0, 0, 2, 1, EMPTY, EMPTY, EMPTY); /* behind two ready ones */
+    NOTES(19, 0, 0, 0, 0, EMPTY, 8, 0, 0x80, 0xc8, 9, 0, 0, 0, 2, 1, EMPTY, EMPTY, EMPTY, EMPTY); /* behind two */
     memcpy(&k, &base, sizeof k);
-    NOTES(20, 0, 0, 0, 0, EMPTY, 3, 0, 0x83, 0x40, 4, EMPTY, 3, 0, 0x80, 1, 1, EMPTY); /* was mode any */
-    NOTES(4, 6, 7, 0, 0, EMPTY, 3, 0, 0x86, 0x40, 2, EMPTY, EMPTY, EMPTY); /* the same priority */
-    NOTES(9, 0, 0, 0, 0, 2, 0, 4, 5, EMPTY, EMPTY, EMPTY, EMPTY); /* 3 runs now, and wasn't met before it waited */
-    NOTES(7, 0, 0, 3, 0, EMPTY, 1, 0, 3, EMPTY, EMPTY, EMPTY);    /* met, as predicted */
-    NOTES(7, 0, 0, 3, 0, EMPTY, 3, 0, 0x85, 0x10, 0, EMPTY, EMPTY, EMPTY); /* 5 was never woken */
+    NOTES(20, 0, 0, 0, 0, EMPTY, 3, 0, 0x83, 0x40, 4, EMPTY, 3, 0, 0x80, 1, 1, EMPTY, EMPTY); /* was mode any */
+    NOTES(4, 6, 7, 0, 0, EMPTY, 3, 0, 0x86, 0x40, 2, EMPTY, EMPTY, EMPTY, EMPTY); /* the same priority */
+    NOTES(9, 0, 0, 0, 0, 2, 0, 4, 5, EMPTY, EMPTY, EMPTY, EMPTY, EMPTY); /* 3 runs now */
+    NOTES(7, 0, 0, 3, 0, EMPTY, 1, 0, 3, EMPTY, EMPTY, EMPTY, EMPTY);    /* met, as predicted */
+    NOTES(7, 0, 0, 3, 0, EMPTY, 3, 0, 0x85, 0x10, 0, EMPTY, EMPTY, EMPTY, EMPTY); /* 5 was never woken */
 }
 
 /* Thread 2 wakes at the seventh tick; at the ninth 0 and 1, which stand behind three ready threads, time out. */
@@ -341,64 +326,64 @@ static void notes_of_ticks(void)
     memcpy(&k, &base, sizeof k);
     for (int i = 1; i <= 9; i++)
         if (i == 2) /* its ticks are its period now, as if it had been posted */
-            NOTES(1, 0, 0, 0, 0, EMPTY, EMPTY, 8, 0, 0x81, 0x0a, 1, 0, 4, 0, 0, 0, EMPTY, EMPTY);
+            NOTES(1, 0, 0, 0, 0, EMPTY, EMPTY, 8, 0, 0x81, 0x0a, 1, 0, 4, 0, 0, 0, EMPTY, EMPTY, EMPTY);
         else if (i == 7)
-            NOTES(1, 0, 0, 0, 0, EMPTY, 1, 0, 2, EMPTY, EMPTY, EMPTY);
+            NOTES(1, 0, 0, 0, 0, EMPTY, 1, 0, 2, EMPTY, EMPTY, EMPTY, EMPTY);
         else if (i == 9)
-            NOTES(1, 0, 0, 0, 0, EMPTY, 7, 0, 0x80, 0x40, 3, 0x81, 0xc0, 4, 1, EMPTY, EMPTY, EMPTY);
+            NOTES(1, 0, 0, 0, 0, EMPTY, 7, 0, 0x80, 0x40, 3, 0x81, 0xc0, 4, 1, EMPTY, EMPTY, EMPTY, EMPTY);
         else
-            NOTES(1, 0, 0, 0, 0, EMPTY, EMPTY, EMPTY, EMPTY, EMPTY); /* ageing alone; posts at the maximum too */
-    NOTES(16, 1, 0, 1, 1, EMPTY, EMPTY, 10, 0, 0x81, 0x18, 2, 0, 0, 0, 3, 0, 0, 0, EMPTY, EMPTY);
-    NOTES(16, 1, 0, 1, 1, EMPTY, EMPTY, EMPTY, EMPTY, EMPTY);
-    NOTES(16, 0, 0, 1, 1, EMPTY, EMPTY, 10, 0, 0x80, 0x18, 0, 0, 0, 0, 0, 0, 0, 0, EMPTY, EMPTY);
-    NOTES(1, 0, 0, 0, 0, EMPTY, EMPTY, EMPTY, EMPTY, EMPTY);    /* counted, and told */
-    NOTES(1, 0, 0, 0, 0, EMPTY, EMPTY, 1, 0, 0, EMPTY, EMPTY); /* counted, and full now */
-    NOTES(1, 0, 0, 0, 0, EMPTY, EMPTY, EMPTY, EMPTY, EMPTY);    /* full before */
+            NOTES(1, 0, 0, 0, 0, EMPTY, EMPTY, EMPTY, EMPTY, EMPTY, EMPTY); /* ageing alone; posts at the maximum too */
+    NOTES(16, 1, 0, 1, 1, EMPTY, EMPTY, 10, 0, 0x81, 0x18, 2, 0, 0, 0, 3, 0, 0, 0, EMPTY, EMPTY, EMPTY);
+    NOTES(16, 1, 0, 1, 1, EMPTY, EMPTY, EMPTY, EMPTY, EMPTY, EMPTY);
+    NOTES(16, 0, 0, 1, 1, EMPTY, EMPTY, 10, 0, 0x80, 0x18, 0, 0, 0, 0, 0, 0, 0, 0, EMPTY, EMPTY, EMPTY);
+    NOTES(1, 0, 0, 0, 0, EMPTY, EMPTY, EMPTY, EMPTY, EMPTY, EMPTY);    /* counted, and told */
+    NOTES(1, 0, 0, 0, 0, EMPTY, EMPTY, 1, 0, 0, EMPTY, EMPTY, EMPTY);  /* counted, and full now */
+    NOTES(1, 0, 0, 0, 0, EMPTY, EMPTY, EMPTY, EMPTY, EMPTY, EMPTY);    /* full before */
 }
 
 static void notes_of_levels_and_bits(void)
 {
     memcpy(&k, &base, sizeof k);
-    NOTES(22, 1, 0, 0, 0, EMPTY, EMPTY, EMPTY, 1, 0, 8, EMPTY);
-    NOTES(22, 1, 0, 0, 0, EMPTY, EMPTY, EMPTY, EMPTY, EMPTY);
-    NOTES(8, 0, 0, 0, 0, EMPTY, EMPTY, EMPTY, EMPTY, EMPTY);
-    NOTES(10, 0, 0, 0, 0, 2, 0, 1, 2, EMPTY, EMPTY, EMPTY, EMPTY);
-    NOTES(11, 0, 0, 0, 0, EMPTY, EMPTY, EMPTY, EMPTY, EMPTY);
+    NOTES(22, 1, 0, 0, 0, EMPTY, EMPTY, EMPTY, 1, 0, 8, EMPTY, EMPTY);
+    NOTES(22, 1, 0, 0, 0, EMPTY, EMPTY, EMPTY, EMPTY, EMPTY, EMPTY);
+    NOTES(8, 0, 0, 0, 0, EMPTY, EMPTY, EMPTY, EMPTY, EMPTY, EMPTY);
+    NOTES(10, 0, 0, 0, 0, 2, 0, 1, 2, EMPTY, EMPTY, EMPTY, EMPTY, EMPTY);
+    NOTES(11, 0, 0, 0, 0, EMPTY, EMPTY, EMPTY, EMPTY, EMPTY, EMPTY);
     EXPECT(same(ask(2, 1, 0, 0, 0), 0, 7, 5));
-    NOTES(12, 0, 0, 0, 0, 2, 0, 4, 5, EMPTY, EMPTY, EMPTY, EMPTY); /* 7 runs now */
+    NOTES(12, 0, 0, 0, 0, 2, 0, 4, 5, EMPTY, EMPTY, EMPTY, EMPTY, EMPTY); /* 7 runs now */
 }
 
 static void notes_of_messages(void)
 {
     memcpy(&k, &base, sizeof k);
-    NOTES(24, 0, 1, 2, 3, EMPTY, EMPTY, EMPTY, EMPTY, 1, 0, 2);
-    NOTES(26, 2, 5, 9, 0, EMPTY, EMPTY, EMPTY, EMPTY, 1, 0, 2);
-    NOTES(27, 0, 256, 0, 0, EMPTY, EMPTY, EMPTY, EMPTY, 4, 0, 0x82, 0xc0, 9, 1); /* behind message 0 */
-    NOTES(25, 2, 0, 0, 0, EMPTY, EMPTY, EMPTY, EMPTY, 12, 0, 0x82, 0x38, 1, 0, 2, 0, 0, 0, 3, 0, 0, 0);
-    NOTES(3, 1, 0, 0, 0, EMPTY, 11, 0, 0xc1, 3, 0xcb, 5, 5, 9, 0, 0, 0, 3, 2, EMPTY, EMPTY,
+    NOTES(24, 0, 1, 2, 3, EMPTY, EMPTY, EMPTY, EMPTY, EMPTY, 1, 0, 2);
+    NOTES(26, 2, 5, 9, 0, EMPTY, EMPTY, EMPTY, EMPTY, EMPTY, 1, 0, 2);
+    NOTES(27, 0, 256, 0, 0, EMPTY, EMPTY, EMPTY, EMPTY, EMPTY, 4, 0, 0x82, 0xc0, 9, 1); /* behind message 0 */
+    NOTES(25, 2, 0, 0, 0, EMPTY, EMPTY, EMPTY, EMPTY, EMPTY, 12, 0, 0x82, 0x38, 1, 0, 2, 0, 0, 0, 3, 0, 0, 0);
+    NOTES(3, 1, 0, 0, 0, EMPTY, 11, 0, 0xc1, 3, 0xcb, 5, 5, 9, 0, 0, 0, 3, 2, EMPTY, EMPTY, EMPTY,
           12, 0, 0x81, 0x38, 1, 0, 2, 0, 0, 0, 3, 0, 0, 0); /* held */
-    NOTES(3, 2, 0, 0, 0, EMPTY, 9, 0, 0xc2, 2, 0x0b, 5, 5, 7, 0, 0, 0, EMPTY, EMPTY,
+    NOTES(3, 2, 0, 0, 0, EMPTY, 9, 0, 0xc2, 2, 0x0b, 5, 5, 7, 0, 0, 0, EMPTY, EMPTY, EMPTY,
           15, 0, 0x80, 0xfc, 1, 7, 0, 8, 0, 0, 0, 9, 0, 0, 0, 4, 0); /* queued, from another sender */
     memcpy(&k, &base, sizeof k);
     EXPECT(same(ask(24, 0, 0, 0, 0), 0, 2, 5));
-    NOTES(26, 2, 4, 1, 0, EMPTY, 4, 0, 0x84, 0x04, 5, 0, EMPTY, EMPTY, 1, 0, 2); /* 4 waited with mask 5 */
+    NOTES(26, 2, 4, 1, 0, EMPTY, 4, 0, 0x84, 0x04, 5, 0, EMPTY, EMPTY, EMPTY, 1, 0, 2); /* 4 waited with mask 5 */
 }
 
-/* A log with room for a note of 28 bytes, but for none of 29. */
+/* A log with room for a note of 30 bytes, but for none of 31. */
 static void full_log(void)
 {
     static struct log log;
     uint8_t r[RECORD];
     make_record(r, 2, 5, 0, 0, 0);
     make_fresh(&k);
-    log.used = LOG_LENGTH - 28;
-    EXPECT(same(call_noted(&k, r, &log), 13, 255, 255) && log.used == LOG_LENGTH - 28 && !k.threads[0].live);
+    log.used = LOG_LENGTH - 30;
+    EXPECT(same(call_noted(&k, r, &log), 13, 255, 255) && log.used == LOG_LENGTH - 30 && !k.threads[0].live);
     make_record(r, 1, 0, 0, 0, 0);
     EXPECT(same(call_noted(&k, r, &log), 0, 255, 255) && log.used == LOG_LENGTH && k.uptime == 1);
     EXPECT(same(call_noted(&k, r, &log), 13, 255, 255) && log.used == LOG_LENGTH && k.uptime == 1);
     undo_last(&k, &log);
-    EXPECT(k.uptime == 0 && log.used == LOG_LENGTH - 28);
-    log.used = LOG_LENGTH - 29;
+    EXPECT(k.uptime == 0 && log.used == LOG_LENGTH - 30);
+    log.used = LOG_LENGTH - 31;
     make_record(r, 2, 5, 0, 0, 0);
     EXPECT(same(call_noted(&k, r, &log), 0, 0, 0) && log.used == LOG_LENGTH);
 }
@@ -422,6 +407,7 @@ int main(void)
     message_counts();
     ticks();
     reasons();
+    flags();
     printf("unit %d checks, %d failures\n", checks, failures);
     return failures != 0;
 }
