@@ -1,8 +1,11 @@
 // What a call names, looked up once.
 ghost use mathlib.Core.Path.{_≡_};
-ghost use Rattle.spec_refusals.specs.Named.{waiterBy, valueOf, named};
+ghost use Rattle.spec_kernel.specs.Places.{home};
+ghost use Rattle.spec_refusals.specs.Named.{classBy, waiterBy, valueOf, named};
 use crate::kinds;
+use code_kernel::places::OF_FLAGS;
 use code_kernel::places::OF_SEMAPHORES;
+use code_kernel::records::is_flag;
 use code_kernel::records::no_message;
 use code_kernel::records::no_semaphore;
 use code_kernel_find::by_id;
@@ -16,7 +19,18 @@ use spec_calls::kinds::WAITER;
 use spec_kernel::records::Kernel;
 use spec_refusals::named::Named;
 
-// The first that waits for semaphore a, of the kinds that a waiter stops or that wake one, else 255.
+// The queue of what may have waiters: of the flag that the call names, else of the semaphore.
+fn home_by(c: Call) -> u16
+    ensures { λ h. ⌜ h ≡ home (classBy c) (c .a) ⌝ }
+{
+    let kind = kinds::kind_of(c);
+    if kinds::names(kind.flag) {
+        return OF_FLAGS + (c.a as u16);
+    }
+    OF_SEMAPHORES + (c.a as u16)
+}
+
+// The first that waits for semaphore or flag a, of the kinds that a waiter stops or that wake one, else 255.
 fn waiter_by(k: Kernel, c: Call) -> u8
     ensures { λ r. ⌜ r ≡ waiterBy k c ⌝ }
 {
@@ -24,7 +38,7 @@ fn waiter_by(k: Kernel, c: Call) -> u8
     if kind.thread == WAITER {
         let threads = k.threads;
         let places = k.places;
-        return firsts::first_at_home(threads, places, OF_SEMAPHORES + (c.a as u16));
+        return firsts::first_at_home(threads, places, home_by(c));
     }
     255
 }
@@ -51,6 +65,9 @@ fn value_of(k: Kernel, c: Call) -> u8
         let posted = k.posted;
         return firsts::next_message(messages, posted, k.runner, c.b);
     }
+    if kind.flag == NEW {
+        return free::free_flag(k.flags);
+    }
     255
 }
 
@@ -64,6 +81,7 @@ pub fn named_by(k: Kernel, c: Call) -> Named
         truth: false,
         waiter: waiter_by(k, c),
         found: value_of(k, c),
+        flag: false,
     };
     let kind = kinds::kind_of(c);
     if kinds::names(kind.thread) {
@@ -83,6 +101,9 @@ pub fn named_by(k: Kernel, c: Call) -> Named
     if kinds::names(kind.message) {
         let messages = k.messages;
         n.message = by_id::message_at(messages, c.a);
+    }
+    if kinds::names(kind.flag) {
+        n.flag = is_flag(k.flags, c.a);
     }
     n
 }

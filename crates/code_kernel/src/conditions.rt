@@ -13,6 +13,7 @@ pub fn ready_for(c: Condition) -> bool
         Condition::ForSemaphore(_) => false,
         Condition::ForEvent(_) => false,
         Condition::ForMessage(_) => false,
+        Condition::ForFlag(_) => false,
     }
 }
 
@@ -47,5 +48,6 @@ pub fn awaits(c: Condition, channel: u8) -> bool
         Condition::ForSemaphore(_) => false,
         Condition::ForEvent(_) => false,
         Condition::ForMessage(mask) => masks(mask, channel),
+        Condition::ForFlag(_) => false,
     }
 }

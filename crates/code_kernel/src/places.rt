@@ -5,12 +5,15 @@ use spec_kernel::records::Condition;
 use spec_kernel::records::Message;
 use spec_kernel::records::Thread;
 
-// A home is a class and an id in it. The ready lists come first, by priority; then the semaphores' queues, then the events'.
+// A home is a class and an id in it. The ready lists come first, by priority; then the semaphores' queues, then the
+// events', then the flags'.
 const CLASS: u16 = 256;
 
 pub const OF_SEMAPHORES: u16 = CLASS;
 
 pub const OF_EVENTS: u16 = 2 * CLASS;
+
+pub const OF_FLAGS: u16 = 3 * CLASS;
 
 // The home of a thread that stands in no list and no queue.
 pub const NOWHERE: u16 = 4 * CLASS;
@@ -32,6 +35,7 @@ pub fn home_of(r: Thread) -> u16
         Condition::ForSemaphore(i) => OF_SEMAPHORES + (i as u16),
         Condition::ForEvent(i) => OF_EVENTS + (i as u16),
         Condition::ForMessage(_) => NOWHERE,
+        Condition::ForFlag(i) => OF_FLAGS + (i as u16),
     }
 }
 

@@ -1,6 +1,6 @@
 // The records that aren't live, and the fresh state.
 ghost use mathlib.Core.Path.{_≡_};
-ghost use Rattle.spec_kernel.specs.Records.{noThread, noSemaphore, noMessage, fresh};
+ghost use Rattle.spec_kernel.specs.Records.{noThread, noSemaphore, noMessage, flagIn, fresh};
 use spec_kernel::records::Condition;
 use spec_kernel::records::Event;
 use spec_kernel::records::Kernel;
@@ -51,6 +51,16 @@ pub fn no_message() -> Message
     }
 }
 
+// Whether a flag is live: that is all of its record. No id too large is.
+pub fn is_flag(flags: u16, i: u8) -> bool
+    ensures { λ r. ⌜ r ≡ flagIn flags i ⌝ }
+{
+    if sizes::FLAG_IDS <= i {
+        return false;
+    }
+    base_bits::bit(flags as u32, i)
+}
+
 // The fresh state: nothing is live, nobody runs, and the events, in mode any, have no bit masked.
 pub fn fresh() -> Kernel
     ensures { λ r. ⌜ r ≡ fresh ⌝ }
@@ -74,5 +84,6 @@ pub fn fresh() -> Kernel
         unscheduled: 0,
         critical: 0,
         runner: 255,
+        flags: 0,
     }
 }

@@ -1,5 +1,5 @@
--- The lowest free id: a loop that looks for it.
-use Prim.Native.Nat.{ℕ, _+_, _-_, _≤_, _<_}
+-- The lowest free id: a loop that looks for it among records, and one among bits.
+use Prim.Native.Nat.{ℕ, suc, _+_, _-_, _≤_, _<_}
 use mathlib.Core.Path.{_≡_, ap, _∙_}
 use mathlib.Core.Bool.{Bool, true, false, cond}
 use mathlib.Core.List.{List}
@@ -8,7 +8,8 @@ use native.Mathlib.Omega.{arith}
 use lib.ListN.{length, drop, getD, drop-of-length-le}
 use lib.Seq.{drop-cons}
 use borrow.Table.Steps.{cases}
-use Rattle.spec_kernel.specs.Free.{lowestFree}
+use Rattle.base_bits.specs.Words.{bitAt}
+use Rattle.spec_kernel.specs.Free.{lowestFree, lowestClear}
 
 -- a loop that looks for it among the n records, of which the first i are live
 abbrev pub Passed : {A : Type 0} → (A → Bool) → List A → ℕ → ℕ → Type 0
@@ -38,3 +39,24 @@ module _ {A : Type 0} (live : A → Bool) (l : List A) {n : ℕ} (i : ℕ) (w : 
   -- every record is live
   pub free-end : n ≤ i → 255 ≡ lowestFree live 0 l
   free-end h = let e : length l ≤ i = omega arith in rw (w .2, drop-of-length-le l e)
+
+-- a loop that looks for the lowest clear one of n bits, of which the first i are set
+abbrev pub PassedBits : ℕ → ℕ → ℕ → Type 0
+PassedBits word n i = (i ≤ n) × (lowestClear word 0 n ≡ lowestClear word i (n - i))
+
+module _ (word n i : ℕ) (w : PassedBits word n i) where
+  module _ (h : i < n) where
+    more : n - i ≡ suc (n - (i + 1))
+    more = omega arith
+
+    -- bit i is clear
+    pub clear-here : bitAt word i ≡ false → i ≡ lowestClear word 0 n
+    clear-here e = rw (w .1, more, e)
+
+    -- or it is set, and the search goes on
+    pub clear-next : bitAt word i ≡ true → PassedBits word n (i + 1)
+    clear-next e = (omega arith, w .1 ∙ rw (more, e, add-one))
+
+  -- every bit is set
+  pub clear-end : n ≤ i → 255 ≡ lowestClear word 0 n
+  clear-end h = let e : n - i ≡ 0 = omega arith in rw (w .1, e)

@@ -1,7 +1,8 @@
 // The lowest free id, or 255 where there is none.
 ghost use mathlib.Core.Path.{_≡_};
 ghost use mathlib.Core.Bool.{cond};
-ghost use Rattle.spec_kernel.specs.Free.{lowestFree};
+ghost use Rattle.spec_kernel.specs.Free.{lowestFree, lowestClear};
+ghost use Rattle.spec_kernel.specs.Sizes.{flagCount};
 use spec_kernel::records::Message;
 use spec_kernel::records::Semaphore;
 use spec_kernel::records::Thread;
@@ -68,4 +69,17 @@ pub fn free_message(messages: [Message; sizes::MESSAGES]) -> u8
         i += 1;
     }
     if i < sizes::MESSAGES { i as u8 } else { 255 }
+}
+
+pub fn free_flag(flags: u16) -> u8
+    ensures { λ r. ⌜ r ≡ lowestClear flags 0 flagCount ⌝ }
+{
+    let mut i: u8 = 0;
+    while i < sizes::FLAG_IDS {
+        if !base_bits::bit(flags as u32, i) {
+            return i;
+        }
+        i += 1;
+    }
+    255
 }

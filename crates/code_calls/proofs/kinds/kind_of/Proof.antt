@@ -31,10 +31,10 @@ unfolding kindOf
 of-kind c = ⊎-elim (λ w. rw (past-end kinds noKind refl (w .0 .taken), w .1)) (λ w. rw (w .1)) (c .if1 .came)
 
 abbrev toRow : Kind → Row
-toRow k = record { 0 = k .caller; 1 = k .used; 2 = k .thread; 3 = k .semaphore; 4 = k .event; 5 = k .message }
+toRow k = record { 0 = k .caller; 1 = k .used; 2 = k .thread; 3 = k .semaphore; 4 = k .event; 5 = k .message; 6 = k .flag }
 
 abbrev toKind : Row → Kind
-toKind r = row (r .0) (r .1) (r .2) (r .3) (r .4) (r .5)
+toKind r = row (r .0) (r .1) (r .2) (r .3) (r .4) (r .5) (r .6)
 
 returns : tie.Need-returns
 returns c = ap toKind (List·getD-map toRow kinds (c .before .before .if1 .i) noKind) ∙ of-kind (c .before .before)

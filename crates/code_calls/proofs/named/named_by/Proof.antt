@@ -58,10 +58,16 @@ names-requires-3 c κs = search needs
 message-at-requires : tie.Need-message-at-requires
 message-at-requires c κs = search needs
 
+names-requires-4 : tie.Need-names-requires-4
+names-requires-4 c κs = search needs
+
+is-flag-requires : tie.Need-is-flag-requires
+is-flag-requires c κs = search needs
+
 -- what stands there after a class: these, who waits and what is found
 abbrev stage : Kernel → Call → Bool → Semaphore → Bool → Message → Named
 stage k x t s e m =
-    record { thread = t; semaphore = s; truth = e; message = m; waiter = waiterBy k x; found = valueOf k x }
+    record { thread = t; semaphore = s; truth = e; message = m; waiter = waiterBy k x; found = valueOf k x; flag = false }
 
 -- ---- the columns of the row
 of-thread : (c : tie.After-names) → c .names .result ≡ names (kindOf (c .before .before .before .before .before .before .args .c) .thread)
@@ -132,15 +138,32 @@ of-message c =
     let r = c .before .before .before .before .before .before .before in
     c .names3 .ensures ∙ ap (λ (x : Kind). names (x .message)) (r .kind-of .ensures)
 
+after-messages : (c : tie.Joined4)
+    → let a = c .before .before .before .before .before .before .before .before .before .before .before .before .before .args in
+    let z = named (a .k) (a .c) in
+    c .if4 .n ≡ stage (a .k) (a .c) (z .thread) (z .semaphore) (z .truth) (z .message)
+unfolding named
+after-messages c =
+    let n = of-message (c .before) in
+    let e = after-events (c .before .before) in
+    ⊎-elim (λ t. rw (sym n ∙ t .0 .taken, t .3, e, t .2 .ensures)) (λ t. rw (sym n ∙ t .0 .left, t .1, e)) (c .if4 .came)
+
+of-flag : (c : tie.After-names4)
+    → let b = c .before .before .before .before .before .before .before .before .before .before .before .before .before .before in
+    c .names4 .result ≡ names (kindOf (b .args .c) .flag)
+of-flag c =
+    let r = c .before .before .before .before .before .before .before .before .before in
+    c .names4 .ensures ∙ ap (λ (x : Kind). names (x .flag)) (r .kind-of .ensures)
+
 returns : tie.Need-returns
 unfolding named
 returns c =
-    let t = c .before .before in
-    rw (sym (of-message (t .before)) ∙ t .if4 .taken, after-events (t .before .before), c .message-at .ensures)
+    let t = c .before in
+    rw (sym (of-flag (t .before)) ∙ t .if5 .taken, after-messages (t .before .before), c .is-flag .ensures)
 
 returns-2 : tie.Need-returns-2
 unfolding named
-returns-2 c = rw (sym (of-message (c .before)) ∙ c .if4 .left, after-events (c .before .before))
+returns-2 c = rw (sym (of-flag (c .before)) ∙ c .if5 .left, after-messages (c .before .before))
 
 pub named-by-spec : {M : Type 1} → statement M
 named-by-spec =
@@ -160,5 +183,7 @@ named-by-spec =
     is-true-requires
     names-requires-3
     message-at-requires
+    names-requires-4
+    is-flag-requires
     returns
     returns-2)

@@ -25,6 +25,9 @@ free-message-requires c κs = search needs
 next-message-requires : tie.Need-next-message-requires
 next-message-requires c κs = search needs
 
+free-flag-requires : tie.Need-free-flag-requires
+free-flag-requires c κs = search needs
+
 -- ---- the row's words, and what they aren't
 of-thread : (c : tie.After-kind-of) → c .kind-of .result .thread ≡ kindOf (c .before .args .c) .thread
 of-thread c = ap (λ (x : Kind). x .thread) (c .kind-of .ensures)
@@ -35,6 +38,9 @@ of-semaphore c = ap (λ (x : Kind). x .semaphore) (c .kind-of .ensures)
 of-message : (c : tie.After-kind-of) → c .kind-of .result .message ≡ kindOf (c .before .args .c) .message
 of-message c = ap (λ (x : Kind). x .message) (c .kind-of .ensures)
 
+of-flag : (c : tie.After-kind-of) → c .kind-of .result .flag ≡ kindOf (c .before .args .c) .flag
+of-flag c = ap (λ (x : Kind). x .flag) (c .kind-of .ensures)
+
 no-thread : (c : tie.Else1) → eqb (kindOf (c .before .before .before .args .c) .thread) 5 ≡ false
 no-thread c = ne-eqb _ 5 (λ z. c .if1 .left (of-thread (c .before .before) ∙ z))
 
@@ -43,6 +49,10 @@ no-semaphore c = ne-eqb _ 5 (λ z. c .if2 .left (of-semaphore (c .before .before
 
 no-message : (c : tie.Else3) → eqb (kindOf (c .before .before .before .before .before .before .before .args .c) .message) 5 ≡ false
 no-message c = ne-eqb _ 5 (λ z. c .if3 .left (of-message (c .before .before .before .before .before .before) ∙ z))
+
+no-taken : (c : tie.Else4)
+    → eqb (kindOf (c .before .before .before .before .before .before .before .before .before .args .c) .message) 6 ≡ false
+no-taken c = ne-eqb _ 6 (λ z. c .if4 .left (of-message (c .before .before .before .before .before .before .before .before) ∙ z))
 
 returns : tie.Need-returns
 unfolding valueOf
@@ -77,10 +87,34 @@ returns-4 c =
 returns-5 : tie.Need-returns-5
 unfolding valueOf
 returns-5 c =
-    let e = c .before .before in
+    let t = c .before in
+    let d = t .before .before in
+    let e = d .before .before in
     let f = e .before .before in
     let g = f .before .before in
-    rw (no-thread g, no-semaphore f, no-message e, ne-eqb _ 6 (λ z. c .if4 .left (of-message (g .before .before) ∙ z)))
+    rw (
+      no-thread g,
+      no-semaphore f,
+      no-message e,
+      no-taken d,
+      sym (of-flag (g .before .before)) ∙ t .if5 .taken,
+      c .free-flag .ensures,
+    )
+
+returns-6 : tie.Need-returns-6
+unfolding valueOf
+returns-6 c =
+    let d = c .before .before in
+    let e = d .before .before in
+    let f = e .before .before in
+    let g = f .before .before in
+    rw (
+      no-thread g,
+      no-semaphore f,
+      no-message e,
+      no-taken d,
+      ne-eqb _ 5 (λ z. c .if5 .left (of-flag (g .before .before) ∙ z)),
+    )
 
 pub value-of-spec : {M : Type 1} → statement M
 value-of-spec =
@@ -95,4 +129,6 @@ value-of-spec =
     returns-3
     next-message-requires
     returns-4
-    returns-5)
+    free-flag-requires
+    returns-5
+    returns-6)

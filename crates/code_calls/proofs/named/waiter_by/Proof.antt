@@ -12,11 +12,8 @@ use Rattle.code_calls.proofs.named.waiter_by.Tie as tie
 kind-of-requires : tie.Need-kind-of-requires
 kind-of-requires c κs = search needs
 
-cast-first-at-home : tie.Need-cast-first-at-home
-cast-first-at-home c = search needs
-
-add-first-at-home : tie.Need-add-first-at-home
-add-first-at-home c = search needs
+home-by-requires : tie.Need-home-by-requires
+home-by-requires c κs = search needs
 
 first-at-home-requires : tie.Need-first-at-home-requires
 first-at-home-requires c κs = search needs
@@ -28,7 +25,7 @@ returns : tie.Need-returns
 unfolding waiterBy firstAtHome
 returns c =
     let t = c .before .before .before .before in
-    rw (sym (of-thread (t .before .before)) ∙ t .if1 .taken) (c .first-at-home .ensures)
+    rw (sym (of-thread (t .before .before)) ∙ t .if1 .taken) (rw (c .before .home-by .ensures) at (c .first-at-home .ensures))
 
 returns-2 : tie.Need-returns-2
 unfolding waiterBy
@@ -37,4 +34,4 @@ returns-2 c = rw (ne-eqb _ 4 (λ z. c .if1 .left (of-thread (c .before .before) 
 pub waiter-by-spec : {M : Type 1} → statement M
 waiter-by-spec =
     tie.close
-    (tie.spec kind-of-requires cast-first-at-home add-first-at-home first-at-home-requires returns returns-2)
+    (tie.spec kind-of-requires home-by-requires first-at-home-requires returns returns-2)

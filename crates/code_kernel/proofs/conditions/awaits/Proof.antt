@@ -20,6 +20,9 @@ enum-known-c c = search needs
 masks-requires : tie.Need-masks-requires
 masks-requires c κs = search needs
 
+enum-told-5 : tie.Need-enum-told-5
+enum-told-5 c = search needs
+
 returns : tie.Need-returns
 returns c = search needs
 
@@ -35,6 +38,9 @@ returns-4 c = search needs
 returns-5 : tie.Need-returns-5
 returns-5 c = rw (c .before .before .c .given .1) (c .masks .ensures)
 
+returns-6 : tie.Need-returns-6
+returns-6 c = search needs
+
 pub awaits-spec : {M : Type 1} → statement M
 awaits-spec =
     tie.close
@@ -45,8 +51,10 @@ awaits-spec =
     enum-told-4
     enum-known-c
     masks-requires
+    enum-told-5
     returns
     returns-2
     returns-3
     returns-4
-    returns-5)
+    returns-5
+    returns-6)

@@ -44,6 +44,15 @@ add-result-2 c = search needs
 enum-told-3 : tie.Need-enum-told-3
 enum-told-3 c = search needs
 
+enum-known-c-3 : tie.Need-enum-known-c-3
+enum-known-c-3 c = search needs
+
+cast-result-4 : tie.Need-cast-result-4
+cast-result-4 c = search needs
+
+add-result-3 : tie.Need-add-result-3
+add-result-3 c = search needs
+
 returns-2 : tie.Need-returns-2
 unfolding homeOf
 returns-2 c = rw (lives (c .before .before .before), c .before .enum-told .given .1)
@@ -64,6 +73,10 @@ returns-6 : tie.Need-returns-6
 unfolding homeOf
 returns-6 c = rw (lives (c .before .before), c .enum-told3 .given .1)
 
+returns-7 : tie.Need-returns-7
+unfolding homeOf
+returns-7 c = rw (lives (c .before .before .before), c .before .c3 .given .1)
+
 pub home-of-spec : {M : Type 1} → statement M
 home-of-spec =
     tie.close
@@ -79,8 +92,12 @@ home-of-spec =
     cast-result-3
     add-result-2
     enum-told-3
+    enum-known-c-3
+    cast-result-4
+    add-result-3
     returns-2
     returns-3
     returns-4
     returns-5
-    returns-6)
+    returns-6
+    returns-7)
