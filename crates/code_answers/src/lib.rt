@@ -60,8 +60,9 @@ pub fn recorded(k: Kernel, bytes: [u8; 16], log: &mut [u8], used: usize) -> Logg
     let second = note::put_thread_part(&mut buffer, first, c, k, next, value, n.waiter);
     let third = note::put_semaphore_part(&mut buffer, second, c, k, next, value);
     let fourth = note::put_event_part(&mut buffer, third, c, k, next);
-    let fifth = note::put_message_part(&mut buffer, fourth, c, k, next, value);
-    let size = note::put_end(&mut buffer, fifth);
+    let fifth = note::put_flag_part(&mut buffer, fourth, c, k.flags, next.flags);
+    let sixth = note::put_message_part(&mut buffer, fifth, c, k, next, value);
+    let size = note::put_end(&mut buffer, sixth);
     let end = base_bytes::logs::write(log, used, &buffer[..size]);
     let answer = code_answers_given::given(value, k.runner, next.runner, used, end);
     if end == used {

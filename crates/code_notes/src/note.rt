@@ -1,17 +1,20 @@
-// The parts of a note: the call record, five sections each behind its length, and the whole length. The call itself puts them together.
+// The parts of a note: the call record, six sections each behind its length, and the whole length. The call itself puts them together.
 ghost use mathlib.Core.Path.{_≡_};
 ghost use mathlib.Core.List.{_++_};
 ghost use Prim.Native.Nat.{_+_, min};
 ghost use Rattle.base_bytes.specs.Bytes.{le};
 ghost use Rattle.base_bytes.specs.Pens.{pen, puts};
 ghost use Rattle.spec_moves.specs.Standing.{threadsOf, postsOf};
-ghost use Rattle.spec_notes.specs.Sections.{schedulerSection, threadEntries, semaphoreEntries, bitNoted, eventEntries, messageEntries};
+ghost use Rattle.spec_notes.specs.Predicted.{predictedFlags};
+ghost use Rattle.spec_notes.specs.Sections.{schedulerSection, threadEntries, semaphoreEntries, bitNoted, eventEntries};
+ghost use Rattle.spec_notes.specs.Sections.{flagsNoted, messageEntries};
 ghost use Rattle.spec_notes.specs.Notes.{section, longestNote};
 ghost use Rattle.code_notes_spans.specs.Spans.{inSpan, threadSpan, semaphoreSpan, eventSpan, messageSpan};
 use base_bytes::bytes::least;
 use base_bytes::pens;
 use code_notes_events::event_notes;
 use code_notes_events::event_rows;
+use code_notes_flags::flag_notes;
 use code_notes_frame::frames::LEAST;
 use code_notes_messages::message_notes;
 use code_notes_messages::message_rows;
@@ -39,6 +42,8 @@ const SEMAPHORE_BYTES: usize = sizes::SEMAPHORES * semaphore_rows::LONGEST;
 // One of them for the bits.
 const EVENT_BYTES: usize = 1 + sizes::EVENTS * event_rows::LONGEST;
 
+const FLAG_BYTES: usize = flag_notes::LONGEST;
+
 const MESSAGE_BYTES: usize = sizes::MESSAGES * message_rows::LONGEST;
 
 // No note is longer.
@@ -47,6 +52,7 @@ pub const MOST: usize = LEAST
     + THREAD_BYTES
     + SEMAPHORE_BYTES
     + EVENT_BYTES
+    + FLAG_BYTES
     + MESSAGE_BYTES;
 
 // Two bytes of length, then the bytes.
@@ -78,7 +84,7 @@ pub fn put_start(log: &mut [u8], bytes: [u8; 16], c: Call, k: Kernel, k2: Kernel
     put_section(log, first, &scratch[..n])
 }
 
-// `waiter` is the first that waits for semaphore a. Where a call can touch no id of a table, the table isn't taken out of the states:
+// `waiter` is the first that waits for semaphore or flag a. Where a call can touch no id of a table, the table isn't taken out of the states:
 // that would copy it.
 pub fn put_thread_part(
     log: &mut [u8],
@@ -147,6 +153,15 @@ pub fn put_event_part(log: &mut [u8], at: usize, c: Call, k: Kernel, k2: Kernel)
     let mut scratch = [0u8; EVENT_BYTES];
     let p = event_notes::put_bits(&mut scratch, 0, k.bits, k2.bits);
     let n = event_notes::put_events(&mut scratch, p, old, new, first, s.count);
+    put_section(log, at, &scratch[..n])
+}
+
+pub fn put_flag_part(log: &mut [u8], at: usize, c: Call, old: u16, new: u16) -> usize
+    ensures { λ r. ⌜ pen (now (log .exit)) r
+        ≡ puts (pen (now (log .entry)) at) (section (flagsNoted old (predictedFlags c new))) ⌝ }
+{
+    let mut scratch = [0u8; FLAG_BYTES];
+    let n = flag_notes::put_flags(&mut scratch, 0, c, old, new);
     put_section(log, at, &scratch[..n])
 }
 

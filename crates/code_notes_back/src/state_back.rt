@@ -13,6 +13,7 @@ use base_rows::rows::row_at;
 use code_moves::states;
 use code_notes_events::event_back::bits_before;
 use code_notes_events::event_back::events_before;
+use code_notes_flags::flag_back::flags_before;
 use code_notes_frame::frames;
 use code_notes_frame::frames::section_of;
 use code_notes_messages::message_back::messages_before;
@@ -119,6 +120,7 @@ fn before_at(c: Call, k: Kernel, s: &[u8], u: u8, v: u8, runner: u8) -> Kernel
         unscheduled: u,
         critical: v,
         runner: runner,
+        flags: flags_before(c, k.flags, section_of(s, frames::FLAGS_AT)),
     }
 }
 

@@ -10,7 +10,7 @@ use base_bytes::bytes::least;
 use base_bytes::bytes::number_at;
 
 // The sections, and the place of each among them.
-pub const SECTIONS: usize = 5;
+pub const SECTIONS: usize = 6;
 
 pub const SCHEDULER_AT: usize = 0;
 
@@ -20,7 +20,9 @@ pub const SEMAPHORES_AT: usize = 2;
 
 pub const EVENTS_AT: usize = 3;
 
-pub const MESSAGES_AT: usize = 4;
+pub const FLAGS_AT: usize = 4;
+
+pub const MESSAGES_AT: usize = 5;
 
 // No note is shorter: the call record, the sections' lengths, and the whole length.
 pub const LEAST: usize = 16 + 2 * SECTIONS + 2;

@@ -131,7 +131,7 @@ fn queue_if(asked: bool, a: Queue, b: Queue) -> bool
     same_queue(a, b)
 }
 
-// Bits, uptime, levels and runner.
+// Bits, uptime, levels, runner and flags.
 fn same_numbers(a: Kernel, b: Kernel) -> bool
     ensures { λ r. ⌜ r ≡ sameNumbers a b ⌝ }
 {
@@ -147,7 +147,10 @@ fn same_numbers(a: Kernel, b: Kernel) -> bool
     if a.critical != b.critical {
         return false;
     }
-    a.runner == b.runner
+    if a.runner != b.runner {
+        return false;
+    }
+    a.flags == b.flags
 }
 
 // The four kinds of records.

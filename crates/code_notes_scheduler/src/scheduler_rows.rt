@@ -2,6 +2,8 @@
 ghost use mathlib.Core.Path.{_≡_};
 ghost use Prim.Native.Nat.{_+_, _-_};
 ghost use mathlib.Core.Bool.{cond};
+ghost use mathlib.Core.List.{[], _∷_};
+ghost use Rattle.spec_refusals.specs.Refusals.{isOneOf};
 ghost use Rattle.spec_notes.specs.Rows.{schedulerRow};
 ghost use Rattle.spec_notes.specs.Predicted.{predictedLevels};
 use base_rows::rows::Row;
@@ -46,6 +48,16 @@ fn level_before(pushed: bool, popped: bool, level: u8) -> u32
     level as u32
 }
 
+// A pop of the critical level, which the pend of a flag is too.
+fn pops_critical(c: Call) -> bool
+    ensures { λ r. ⌜ r ≡ isOneOf c (12 ∷ 33 ∷ []) ⌝ }
+{
+    if c.kind == 12 {
+        return true;
+    }
+    c.kind == 33
+}
+
 // What the call and the values after it tell of the values before.
 pub fn predicted(c: Call, unscheduled: u8, critical: u8, runner: u8) -> Row
     ensures { λ x. ⌜ x .fields ≡ predictedLevels c unscheduled critical runner ⌝ }
@@ -53,7 +65,7 @@ pub fn predicted(c: Call, unscheduled: u8, critical: u8, runner: u8) -> Row
     Row {
         fields: [
             level_before(c.kind == 8, c.kind == 9, unscheduled),
-            level_before(c.kind == 11, c.kind == 12, critical),
+            level_before(c.kind == 11, pops_critical(c), critical),
             runner as u32,
             0,
             0,

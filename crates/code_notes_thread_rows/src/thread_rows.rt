@@ -28,6 +28,7 @@ fn condition_code(c: Condition) -> u8
         Condition::ForSemaphore(_) => 3,
         Condition::ForEvent(_) => 4,
         Condition::ForMessage(_) => 5,
+        Condition::ForFlag(_) => 6,
     }
 }
 
@@ -41,6 +42,7 @@ fn data_of(c: Condition) -> u16
         Condition::ForSemaphore(i) => i as u16,
         Condition::ForEvent(i) => i as u16,
         Condition::ForMessage(mask) => mask,
+        Condition::ForFlag(i) => i as u16,
     }
 }
 
@@ -51,6 +53,7 @@ fn object_code(o: Object) -> u8
         Object::Semaphore => 2,
         Object::Event => 3,
         Object::Message => 4,
+        Object::Flag => 5,
     }
 }
 
@@ -81,7 +84,7 @@ fn full_code(r: Thread) -> u8
 {
     let c = r.condition;
     let code = condition_code(c);
-    if r.live { code } else { 5 + code }
+    if r.live { code } else { 6 + code }
 }
 
 // The widths of a row's fields, in bytes, of a thread of this code: a mask has two, an object's id one.
@@ -119,6 +122,7 @@ pub fn predicted_code(c: Call, r: Thread) -> u8
         28 => 3,
         29 => 4,
         30 => 4,
+        34 => 6,
         _ => 1,
     }
 }
@@ -150,6 +154,7 @@ fn condition_from(code: u8, what: u16) -> Condition
         3 => Condition::ForSemaphore((what % 256) as u8),
         4 => Condition::ForEvent((what % 256) as u8),
         5 => Condition::ForMessage(what),
+        6 => Condition::ForFlag((what % 256) as u8),
         _ => Condition::Ready,
     }
 }
@@ -162,6 +167,7 @@ fn wake_from(code: u8) -> Wake
         2 => Wake::TimedOut(Object::Semaphore),
         3 => Wake::TimedOut(Object::Event),
         4 => Wake::TimedOut(Object::Message),
+        5 => Wake::TimedOut(Object::Flag),
         _ => Wake::None,
     }
 }
@@ -191,16 +197,16 @@ fn data_now(condition: Condition, code: u8) -> u16
     data_of(condition) % 256
 }
 
-// What a blocked thread waited for: after a post, the semaphore of the call.
+// What a blocked thread waited for: after a post, the semaphore or flag of the call.
 fn data_before(c: Call, condition: Condition, code: u8) -> u16
-    ensures { λ r. ⌜ r ≡ cond (ltb 2 code) (cond (isOneOf c (19 ∷ 28 ∷ [])) (c .a) (dataNow code condition)) 0 ⌝ }
+    ensures { λ r. ⌜ r ≡ cond (ltb 2 code) (cond (isOneOf c (19 ∷ 28 ∷ 34 ∷ [])) (c .a) (dataNow code condition)) 0 ⌝ }
 {
     if code <= 2 {
         return 0;
     }
     let kind = c.kind;
     match kind {
-        19 | 28 => c.a as u16,
+        19 | 28 | 34 => c.a as u16,
         _ => data_now(condition, code),
     }
 }
@@ -269,14 +275,18 @@ fn reply_before(woken: bool, r: Thread, code: u8) -> u8
     if woken { 255 } else { r.reply }
 }
 
-// A thread that stood in a list stood first.
-fn place_before(code: u8) -> u8
-    ensures { λ r. ⌜ r ≡ cond (eqb code 1 || eqb code 3 || eqb code 4) 0 255 ⌝ }
+// A thread that stood in a list stood first, and who waited for a flag that is posted behind the poster.
+fn place_before(c: Call, code: u8) -> u8
+    ensures { λ r. ⌜ r ≡ cond (is c 34) 1 (cond (eqb code 1 || eqb code 3 || eqb code 4 || eqb code 6) 0 255) ⌝ }
 {
+    if c.kind == 34 {
+        return 1;
+    }
     match code {
         1 => 0,
         3 => 0,
         4 => 0,
+        6 => 0,
         _ => 255,
     }
 }
@@ -310,7 +320,7 @@ pub fn predicted(c: Call, r: Thread, code: u8) -> Row
             ticks_before(c, r.ticks, code),
             wake_before(woken, blocked, wake) as u32,
             reply_before(woken, r, code) as u32,
-            place_before(code) as u32,
+            place_before(c, code) as u32,
             due_before(c, code) as u32,
         ],
     }

@@ -1,7 +1,7 @@
 -- An undo is accepted exactly where an earlier state and a call lead to this end state with this note [01, table: number 15].
 use Prim.Native.Nat.{ℕ, zero, suc, _+_, _-_, _≤_, _<_}
 use mathlib.Core.Path.{_≡_, sym, ap, _∙_}
-use mathlib.Core.Bool.{Bool, true, false, cond, _&&_, and-true, and-eq-true-iff}
+use mathlib.Core.Bool.{Bool, true, false, cond, and-true, and-eq-true-iff}
 use mathlib.Core.List.{List, []}
 use mathlib.Core.Logic.{_↔_}
 use native.Mathlib.Omega.{arith}
@@ -11,11 +11,10 @@ use lib.Seq.{length-take-le}
 use borrow.Author.Tests.{eqb-true, eq-eqb, ltb-true, lt-ltb, leb-true}
 use borrow.Table.Steps.{cases}
 use Rattle.base_bits.specs.Words.{bitAt}
-use Rattle.base_bits.proofs.Laws.{with-small, with-below, without-small}
+use Rattle.base_bits.proofs.Laws.{with-small, without-small}
 use Rattle.base_bytes.specs.Bytes.{un}
 use Rattle.base_queue.specs.Lists.{isEmpty}
 use Rattle.spec_kernel.specs.declared.records.Kernel.{Kernel}
-use Rattle.spec_kernel.specs.Sizes.{flagCount}
 use Rattle.spec_rules.specs.Rules.{Sized, Rules}
 use Rattle.spec_rules.proofs.Exactly.{rules-mean, rules-hold}
 use Rattle.spec_calls.specs.declared.call.Call.{Call}
@@ -40,6 +39,7 @@ use Rattle.spec_notes.proofs.SameStates.{kernel-same, same-exactly}
 use Rattle.base_rows.proofs.Fitted.{Bytes, drop-bytes, take-bytes}
 use Rattle.spec_notes.proofs.AnyNote.{threads-any, threads-sized, semaphores-any, semaphores-sized}
 use Rattle.spec_notes.proofs.AnyNote.{events-any, events-sized, messages-any, messages-sized, back-full}
+use Rattle.spec_notes.proofs.FlagsBack.{predicted-small}
 use Rattle.spec_notes.proofs.FramesRead.{frames-back, note-sizes}
 use Rattle.spec_notes.proofs.Yields.{yields-call, yields-back}
 
@@ -93,13 +93,9 @@ module _ (c : Call) (k′ : Kernel) (x : List (List ℕ)) (Z : Sized k′) (W : 
       (λ e. rw e (W .bits))
 
   flags-small : flagsBefore c (k′ .flags) (flagsIn x) < 65536
-  unfolding flagsBefore predictedFlags
+  unfolding flagsBefore
   flags-small =
-      let b : predictedFlags c (k′ .flags) < 65536 =
-      cases (is c 32 && ltb (c .a) flagCount)
-      (λ e. let a = ltb-true (c .a) flagCount (and-eq-true-iff (is c 32) (ltb (c .a) flagCount) .0 e .1) in
-      rw e (with-below (k′ .flags) (c .a) {n = flagCount} a (W .flags)))
-      (λ e. rw e (W .flags)) in
+      let b = predicted-small c (k′ .flags) (W .flags) in
       cases (isEmpty (flagsIn x)) (λ e. rw e b) (λ e. rw e (without-small (predictedFlags c (k′ .flags)) _ b))
 
   earlier-small : earlier c (k′ .uptime) < 4294967296
