@@ -11,6 +11,9 @@ cast-t5 c = search needs
 cast-t7 : tie.Need-cast-t7
 cast-t7 c = search needs
 
+cast-t9 : tie.Need-cast-t9
+cast-t9 c = search needs
+
 returns : tie.Need-returns
 unfolding conditionFrom
 returns c = rw (c .match .keys1)
@@ -29,10 +32,14 @@ returns-4 c = rw (c .match .keys4)
 
 returns-5 : tie.Need-returns-5
 unfolding conditionFrom
-returns-5 c =
+returns-5 c = rw (c .match .keys5)
+
+returns-6 : tie.Need-returns-6
+unfolding conditionFrom
+returns-6 c =
     let r = c .match .rest in
-    rw (ne-eqb _ 2 (r .0 .0 .0 .1), ne-eqb _ 3 (r .0 .0 .1), ne-eqb _ 4 (r .0 .1), ne-eqb _ 5 (r .1))
+    rw (ne-eqb _ 2 (r .0 .0 .0 .0 .1), ne-eqb _ 3 (r .0 .0 .0 .1), ne-eqb _ 4 (r .0 .0 .1), ne-eqb _ 5 (r .0 .1), ne-eqb _ 6 (r .1))
 
 pub condition-from-spec : {M : Type 1} → statement M
 condition-from-spec =
-    tie.close (tie.spec cast-t5 cast-t7 returns returns-2 returns-3 returns-4 returns-5)
+    tie.close (tie.spec cast-t5 cast-t7 cast-t9 returns returns-2 returns-3 returns-4 returns-5 returns-6)

@@ -15,12 +15,17 @@ data-now-requires : tie.Need-data-now-requires
 data-now-requires c κs = search needs
 
 returns-2 : tie.Need-returns-2
-returns-2 c = rw (lt-ltb _ _ (c .before .before .if1 .left)) (⊎-elim (λ e. rw e) (λ e. rw e) (c .before .match .keys1))
+returns-2 c = rw (lt-ltb _ _ (c .before .before .if1 .left)) (⊎-elim (λ e. rw e) (⊎-elim (λ e. rw e) (λ e. rw e)) (c .before .match .keys1))
 
 returns-3 : tie.Need-returns-3
 returns-3 c =
     let r = c .before .match .rest in
-    rw (lt-ltb _ _ (c .before .before .if1 .left), ne-eqb _ 19 (λ e. r .1 (inl e)), ne-eqb _ 28 (λ e. r .1 (inr e))) (c .data-now .ensures)
+    rw (
+      lt-ltb _ _ (c .before .before .if1 .left),
+      ne-eqb _ 19 (λ e. r .1 (inl e)),
+      ne-eqb _ 28 (λ e. r .1 (inr (inl e))),
+      ne-eqb _ 34 (λ e. r .1 (inr (inr e))),
+    ) (c .data-now .ensures)
 
 pub data-before-spec : {M : Type 1} → statement M
 data-before-spec = tie.close (tie.spec returns cast-result data-now-requires returns-2 returns-3)

@@ -7,7 +7,7 @@ use Rattle.spec_notes.specs.Rows.{conditionCode}
 use Rattle.code_notes_thread_rows.proofs.thread_rows.full_code.Statement.{statement}
 use Rattle.code_notes_thread_rows.proofs.thread_rows.full_code.Tie as tie
 
-code-below : (c : Condition) → conditionCode c ≤ 5
+code-below : (c : Condition) → conditionCode c ≤ 6
 code-below Ready = omega arith
 code-below Asleep = omega arith
 code-below (ForSemaphore i) = omega arith

@@ -69,21 +69,26 @@ returns-12 c = rw (c .match .keys12)
 
 returns-13 : tie.Need-returns-13
 unfolding predictedCode
-returns-13 c =
+returns-13 c = rw (c .match .keys13)
+
+returns-14 : tie.Need-returns-14
+unfolding predictedCode
+returns-14 c =
     let r = c .match .rest in
     rw (
-      ne-eqb _ 1 (r .0 .0 .0 .0 .0 .0 .0 .0 .0 .0 .0 .1),
-      ne-eqb _ 2 (r .0 .0 .0 .0 .0 .0 .0 .0 .0 .0 .1),
-      ne-eqb _ 4 (r .0 .0 .0 .0 .0 .0 .0 .0 .0 .1),
-      ne-eqb _ 5 (r .0 .0 .0 .0 .0 .0 .0 .0 .1),
-      ne-eqb _ 19 (r .0 .0 .0 .0 .0 .0 .0 .1),
-      ne-eqb _ 20 (r .0 .0 .0 .0 .0 .0 .1),
-      ne-eqb _ 22 (r .0 .0 .0 .0 .0 .1),
-      ne-eqb _ 23 (r .0 .0 .0 .0 .1),
-      ne-eqb _ 26 (r .0 .0 .0 .1),
-      ne-eqb _ 28 (r .0 .0 .1),
-      ne-eqb _ 29 (r .0 .1),
-      ne-eqb _ 30 (r .1),
+      ne-eqb _ 1 (r .0 .0 .0 .0 .0 .0 .0 .0 .0 .0 .0 .0 .1),
+      ne-eqb _ 2 (r .0 .0 .0 .0 .0 .0 .0 .0 .0 .0 .0 .1),
+      ne-eqb _ 4 (r .0 .0 .0 .0 .0 .0 .0 .0 .0 .0 .1),
+      ne-eqb _ 5 (r .0 .0 .0 .0 .0 .0 .0 .0 .0 .1),
+      ne-eqb _ 19 (r .0 .0 .0 .0 .0 .0 .0 .0 .1),
+      ne-eqb _ 20 (r .0 .0 .0 .0 .0 .0 .0 .1),
+      ne-eqb _ 22 (r .0 .0 .0 .0 .0 .0 .1),
+      ne-eqb _ 23 (r .0 .0 .0 .0 .0 .1),
+      ne-eqb _ 26 (r .0 .0 .0 .0 .1),
+      ne-eqb _ 28 (r .0 .0 .0 .1),
+      ne-eqb _ 29 (r .0 .0 .1),
+      ne-eqb _ 30 (r .0 .1),
+      ne-eqb _ 34 (r .1),
     )
 
 pub predicted-code-spec : {M : Type 1} → statement M
@@ -106,4 +111,5 @@ predicted-code-spec =
     returns-10
     returns-11
     returns-12
-    returns-13)
+    returns-13
+    returns-14)
