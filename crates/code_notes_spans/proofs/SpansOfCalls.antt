@@ -37,6 +37,7 @@ use Rattle.spec_laws.specs.Words.{OtherThreads, OtherMessages}
 use Rattle.spec_semaphores.specs.Semaphores.{postTo, post, createSemaphore, destroySemaphore, makePeriodic, removePeriodic}
 use Rattle.spec_semaphores.specs.Semaphores.{pendSemaphore, postSemaphore}
 use Rattle.spec_events.specs.Events.{workedOut, loadEvent, pendEvent, setBit, clearBit}
+use Rattle.spec_flags.specs.Flags.{createFlag, destroyFlag, pendFlag, postFlag}
 use Rattle.spec_messages.specs.Messages.{createMessage, destroyMessage, handOver, postMessage, receive, pendMessage}
 use Rattle.spec_time.specs.Time.{tick}
 use Rattle.spec_effects.specs.Effects.{effect}
@@ -219,7 +220,7 @@ module _ (k : Kernel) (c : Call) where
   kind-15 : Spans 15 destroySemaphore
   unfolding destroySemaphore threadSpan semaphoreSpan eventSpan messageSpan spanOf kindOf
   kind-15 =
-      spanned (one-thread _ _ _ refl (waiterOf k c) (λ _ _. refl) (still _))
+      spanned (one-thread _ _ _ refl (waiterOf k (of-kind 15 c)) (λ _ _. refl) (still _))
       (one-semaphore _ _ _ refl (c .a) (λ i. getD-set-other (k .semaphores) (c .a) i _ noSemaphore))
       (no-event _ _ _ refl) (no-message _ _ _ refl)
 
@@ -249,14 +250,14 @@ module _ (k : Kernel) (c : Call) where
   unfolding postSemaphore threadSpan semaphoreSpan eventSpan messageSpan spanOf kindOf
   kind-19 =
       let (d, e) = post-parts (c .a) k in
-      spanned (one-thread _ _ _ refl (waiterOf k c) (waiter-only k (c .a)) (still _))
+      spanned (one-thread _ _ _ refl (waiterOf k (of-kind 19 c)) (waiter-only k (c .a)) (still _))
       (one-semaphore _ _ _ refl (c .a) (λ i. post-other i (c .a) k)) (no-event _ _ _ d) (no-message _ _ _ e)
 
   kind-28 : Spans 28 postSemaphore
   unfolding postSemaphore threadSpan semaphoreSpan eventSpan messageSpan spanOf kindOf
   kind-28 =
       let (d, e) = post-parts (c .a) k in
-      spanned (one-thread _ _ _ refl (waiterOf k c) (waiter-only k (c .a)) (still _))
+      spanned (one-thread _ _ _ refl (waiterOf k (of-kind 28 c)) (waiter-only k (c .a)) (still _))
       (one-semaphore _ _ _ refl (c .a) (λ i. post-other i (c .a) k)) (no-event _ _ _ d) (no-message _ _ _ e)
 
   -- ---- events
@@ -314,6 +315,24 @@ module _ (k : Kernel) (c : Call) where
       (spanned (one-thread _ _ _ refl (k .runner) (λ _ _. refl) (still _)) (no-semaphore _ _ _ refl refl)
       (no-event _ _ _ refl) (one-message _ _ _ (nextMessage k (c .b)) (λ m. repost-other (postsOf k) (nextMessage k (c .b)) _))))
 
+  -- ---- flags
+  kind-32 : Spans 32 destroyFlag
+  unfolding destroyFlag threadSpan semaphoreSpan eventSpan messageSpan spanOf kindOf
+  kind-32 =
+      spanned (one-thread _ _ _ refl (waiterOf k (of-kind 32 c)) (λ _ _. refl) (still _)) (no-semaphore _ _ _ refl refl)
+      (no-event _ _ _ refl) (no-message _ _ _ refl)
+
+  -- the caller blocks, and one level is off
+  kind-33 : Spans 33 pendFlag
+  unfolding pendFlag popCritical block threadSpan semaphoreSpan eventSpan messageSpan spanOf kindOf
+  kind-33 =
+      spanned (one-thread _ _ _ refl (k .runner) (λ t. relocate-other (threadsOf k) (k .runner) _) (still _)) (no-semaphore _ _ _ refl refl)
+      (no-event _ _ _ refl) (no-message _ _ _ refl)
+
+  kind-34 : Spans 34 postFlag
+  unfolding postFlag threadSpan semaphoreSpan eventSpan messageSpan spanOf kindOf
+  kind-34 = spanned whole (no-semaphore _ _ _ refl refl) (no-event _ _ _ refl) (no-message _ _ _ refl)
+
 -- thread b of a call of kind 26 is live, so b is a byte
 byte-named : {k : Kernel} {c : Call} → Accepted k c → length (k .threads) ≡ threadCount → c .kind ≡ 26 → asByte (c .b) ≡ c .b
 byte-named {k} {c} A l e =
@@ -327,7 +346,7 @@ module _ {k : Kernel} {c : Call} (l : length (k .threads) ≡ threadCount) (A : 
 
   effect-spanned : Spanned k c (valueOf k c) (effect k c)
   unfolding pushUnscheduled popUnscheduled popAllUnscheduled pushCritical popCritical popAllCritical setBit clearBit
-      threadSpan semaphoreSpan eventSpan messageSpan spanOf kindOf
+      createFlag threadSpan semaphoreSpan eventSpan messageSpan spanOf kindOf
   effect-spanned =
       effect-of A (Spanned k c (valueOf k c)) λ kind-0.
       kind-0
@@ -361,6 +380,10 @@ module _ {k : Kernel} {c : Call} (l : length (k .threads) ≡ threadCount) (A : 
       ▸ at-kind postSemaphore (kind-28 k c)
       ▸ at-kind setBit (worked k (of-kind 29 c) _ refl _ refl (refl, refl, refl))
       ▸ at-kind clearBit (worked k (of-kind 30 c) _ refl _ refl (refl, refl, refl))
+      ▸ at-kind createFlag (quiet k (of-kind 31 c) _ refl _ (λ _. refl) (refl, refl, refl, refl) refl (refl, refl, refl))
+      ▸ at-kind destroyFlag (kind-32 k c)
+      ▸ at-kind pendFlag (kind-33 k c)
+      ▸ at-kind postFlag (kind-34 k c)
       ▸ end
 
 -- who runs is no part of a record

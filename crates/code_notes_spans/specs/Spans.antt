@@ -6,10 +6,10 @@ use mathlib.Core.List.{List}
 use lib.Dec.{eqb, ltb}
 use Rattle.spec_kernel.specs.declared.records.Kernel.{Kernel}
 use Rattle.spec_kernel.specs.Sizes.{threadCount, semaphoreCount, eventCount, messageCount}
-use Rattle.spec_kernel.specs.Conditions.{ofSemaphores}
 use Rattle.spec_kernel.specs.Places.{home}
 use Rattle.code_kernel_find.specs.AtHome.{firstAtHome}
 use Rattle.spec_calls.specs.declared.call.Call.{Call}
+use Rattle.spec_refusals.specs.Named.{classBy}
 use Rattle.spec_calls.specs.Kinds.{theRunner, theWaiter, theNew, theTaken, anybody, kindOf, names, idNamed}
 
 pub record Span : Type 0 where
@@ -24,7 +24,7 @@ abbrev pub alone : ℕ → ℕ → Span
 alone size x = cond (ltb x size) (span x 1) (span 0 0)
 
 -- The ids of a class of this size that a call can touch, by its column of the row: all, one, or nobody. A new one and a message that
--- is taken have the id that the call answers; `waiter` is the first that waits for semaphore a.
+-- is taken have the id that the call answers; `waiter` is the first that waits for semaphore or flag a.
 unfoldable pub spanOf : ℕ → ℕ → Call → ℕ → ℕ → ℕ → Span
 spanOf size which c runner value waiter =
     cond (eqb which anybody) (span 0 size)
@@ -49,6 +49,6 @@ messageSpan c value = spanOf messageCount (kindOf c .message) c 255 value 255
 abbrev pub inSpan : Span → (ℕ → ℕ → List ℕ) → List ℕ
 inSpan s entries = entries (s .first) (s .count)
 
--- the first that waits for semaphore a
+-- the first that waits for semaphore or flag a
 abbrev pub waiterOf : Kernel → Call → ℕ
-waiterOf k c = firstAtHome (k .threads) (k .places) (home ofSemaphores (c .a))
+waiterOf k c = firstAtHome (k .threads) (k .places) (home (classBy c) (c .a))
