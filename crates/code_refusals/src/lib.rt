@@ -3,7 +3,7 @@ ghost use mathlib.Core.Path.{_≡_};
 ghost use mathlib.Core.Bool.{_&&_};
 ghost use Rattle.spec_calls.specs.Kinds.{kindOf};
 ghost use Rattle.spec_refusals.specs.Refusals.{outside, unknown, badNumber, badId, popsNothing, stopsCaller, blocksInRegion, noneFree};
-ghost use Rattle.spec_refusals.specs.Refusals.{numberFrom};
+ghost use Rattle.spec_refusals.specs.Refusals.{hasWaiters, numberFrom};
 use code_calls::kinds::kind_of;
 use code_calls::kinds::names;
 use code_kernel::places::is_queued;
@@ -89,7 +89,21 @@ fn bad_id(n: Named, kind: Kind, c: Call) -> bool
     if both(kind.event == BIT, sizes::BITS <= c.a) {
         return true;
     }
-    both(names(kind.message), !n.message.live)
+    if both(names(kind.message), !n.message.live) {
+        return true;
+    }
+    both(names(kind.flag), !n.flag)
+}
+
+// The semaphore or flag to destroy has a first waiter.
+fn has_waiters(n: Named, c: Call) -> bool
+    ensures { λ r. ⌜ r ≡ hasWaiters n c ⌝ }
+{
+    let kind = c.kind;
+    match kind {
+        15 | 32 => n.waiter != 255,
+        _ => false,
+    }
 }
 
 fn pops_nothing(unscheduled: u8, critical: u8, c: Call) -> bool
@@ -117,10 +131,13 @@ fn stops_caller(runner: u8, n: Named, c: Call) -> bool
     }
 }
 
-// Inside a region, a call that would stop the caller.
+// Inside a region, a call that would stop the caller; a flag's pend comes from a single critical one, and from nowhere else.
 fn blocks_in_region(unscheduled: u8, critical: u8, runner: u8, n: Named, c: Call) -> bool
     ensures { λ r. ⌜ r ≡ blocksInRegion unscheduled critical runner n c ⌝ }
 {
+    if c.kind == 33 {
+        return !both(unscheduled == 0, critical == 1);
+    }
     if unscheduled == 0 {
         if critical == 0 {
             return false;
@@ -135,7 +152,7 @@ fn none_free(unscheduled: u8, critical: u8, n: Named, c: Call) -> bool
 {
     let kind = c.kind;
     match kind {
-        2 | 14 | 24 => n.found == 255,
+        2 | 14 | 24 | 31 => n.found == 255,
         8 => unscheduled == 255,
         11 => critical == 255,
         _ => false,
@@ -168,7 +185,7 @@ pub fn number_of(unscheduled: u8, critical: u8, runner: u8, n: Named, c: Call) -
     if both(kinds::names_message(kind, c), n.message.owner != runner) {
         return 8;
     }
-    if both(c.kind == 15, n.waiter != 255) {
+    if has_waiters(n, c) {
         return 10;
     }
     if both(c.kind == 17, n.semaphore.period == 0) {

@@ -28,6 +28,7 @@ fn reason_at(c: Condition) -> Wake
         Condition::ForSemaphore(_) => Wake::TimedOut(Object::Semaphore),
         Condition::ForEvent(_) => Wake::TimedOut(Object::Event),
         Condition::ForMessage(_) => Wake::TimedOut(Object::Message),
+        Condition::ForFlag(_) => Wake::TimedOut(Object::Flag),
     }
 }
 

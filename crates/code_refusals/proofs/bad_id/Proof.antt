@@ -34,6 +34,12 @@ names-requires-3 c κs = search needs
 both-requires-5 : tie.Need-both-requires-5
 both-requires-5 c κs = search needs
 
+names-requires-4 : tie.Need-names-requires-4
+names-requires-4 c κs = search needs
+
+both-requires-6 : tie.Need-both-requires-6
+both-requires-6 c κs = search needs
+
 -- ---- the row of the kind, where so many tests failed
 abbrev row-1 : tie.Else1 → tie.Start
 row-1 c = c .before .before .before .before
@@ -46,6 +52,9 @@ row-3 c = row-2 (c .before .before .before .before)
 
 abbrev row-4 : tie.Else4 → tie.Start
 row-4 c = row-3 (c .before .before .before .before)
+
+abbrev row-5 : tie.Else5 → tie.Start
+row-5 c = row-4 (c .before .before .before .before)
 
 -- ---- what each test judges by it
 of-thread : (c : tie.After-both)
@@ -90,6 +99,15 @@ of-message c =
     c .both5 .ensures ∙ ap (λ (b : Bool). b && not (a .n .message .live))
     (c .before .before .names3 .ensures ∙ ap (λ (x : Kind). names (x .message)) (r .pre))
 
+of-flag : (c : tie.After-both6)
+    → let a = row-5 (c .before .before .before) .args in
+    c .both6 .result ≡ (names (kindOf (a .c) .flag) && not (a .n .flag))
+of-flag c =
+    let r = row-5 (c .before .before .before) in
+    let a = r .args in
+    c .both6 .ensures ∙ ap (λ (b : Bool). b && not (a .n .flag))
+    (c .before .before .names4 .ensures ∙ ap (λ (x : Kind). names (x .flag)) (r .pre))
+
 no-thread : (c : tie.Else1) → let a = row-1 c .args in (names (kindOf (a .c) .thread) && not (a .n .thread)) ≡ false
 no-thread c = sym (of-thread (c .before)) ∙ c .if1 .left
 
@@ -101,6 +119,9 @@ no-event c = sym (of-event (c .before)) ∙ c .if3 .left
 
 no-bit : (c : tie.Else4) → let a = row-4 c .args in (eqb (kindOf (a .c) .event) theBit && leb bitCount (a .c .a)) ≡ false
 no-bit c = sym (of-bit (c .before)) ∙ c .if4 .left
+
+no-message : (c : tie.Else5) → let a = row-5 c .args in (names (kindOf (a .c) .message) && not (a .n .message .live)) ≡ false
+no-message c = sym (of-message (c .before)) ∙ c .if5 .left
 
 returns : tie.Need-returns
 unfolding badId
@@ -126,10 +147,33 @@ returns-4 c =
 returns-5 : tie.Need-returns-5
 unfolding badId
 returns-5 c =
-    let b = c .before .before .before in
+    let b = c .before .before .before .before in
     let e = b .before .before .before .before in
     let s = e .before .before .before .before in
-    rw (no-thread (s .before .before .before .before), no-semaphore s, no-event e, no-bit b, of-message c) (sym (or-false _))
+    rw (
+      no-thread (s .before .before .before .before),
+      no-semaphore s,
+      no-event e,
+      no-bit b,
+      sym (of-message (c .before)) ∙ c .if5 .taken,
+    )
+
+returns-6 : tie.Need-returns-6
+unfolding badId
+returns-6 c =
+    let m = c .before .before .before in
+    let b = m .before .before .before .before in
+    let e = b .before .before .before .before in
+    let s = e .before .before .before .before in
+    rw (
+      no-thread (s .before .before .before .before),
+      no-semaphore s,
+      no-event e,
+      no-bit b,
+      no-message m,
+      of-flag c,
+    )
+    (sym (or-false _))
 
 pub bad-id-spec : {M : Type 1} → statement M
 bad-id-spec =
@@ -147,4 +191,7 @@ bad-id-spec =
     returns-4
     names-requires-3
     both-requires-5
-    returns-5)
+    returns-5
+    names-requires-4
+    both-requires-6
+    returns-6)

@@ -11,7 +11,7 @@ returns : tie.Need-returns
 unfolding noneFree
 returns c =
     let z = sym (or-false _) in
-    ⊎-elim (λ e. rw e z) (λ s. ⊎-elim (λ e. rw e z) (λ e. rw e z) s) (c .before .match .keys1)
+    ⊎-elim (λ e. rw e z) (λ s. ⊎-elim (λ e. rw e z) (λ t. ⊎-elim (λ e. rw e z) (λ e. rw e z) t) s) (c .before .match .keys1)
 
 returns-2 : tie.Need-returns-2
 unfolding noneFree
@@ -29,7 +29,8 @@ returns-4 c =
     rw (
       ne-eqb _ 2 (λ e. f (inl e)),
       ne-eqb _ 14 (λ e. f (inr (inl e))),
-      ne-eqb _ 24 (λ e. f (inr (inr e))),
+      ne-eqb _ 24 (λ e. f (inr (inr (inl e)))),
+      ne-eqb _ 31 (λ e. f (inr (inr (inr e)))),
       ne-eqb _ 8 (r .0 .1),
       ne-eqb _ 11 (r .1),
     )

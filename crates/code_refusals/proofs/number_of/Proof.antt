@@ -6,7 +6,7 @@ use mathlib.Core.List.{List}
 use lib.Dec.{eqb, ltb}
 use lib.ListN.{getD, drop}
 use borrow.Author.Needs.{needs}
-use Rattle.spec_refusals.specs.Refusals.{interruptsOff, noCaller, isInChannel, notOwner, hasWaiters, notPeriodic}
+use Rattle.spec_refusals.specs.Refusals.{interruptsOff, noCaller, isInChannel, notOwner, notPeriodic}
 use Rattle.spec_refusals.specs.Refusals.{refusalsOf, firstThatApplies, numberFrom}
 use Rattle.spec_refusals.proofs.Applies.{passed, decides}
 use Rattle.code_refusals.proofs.number_of.Statement.{statement}
@@ -39,8 +39,8 @@ both-requires-4 c κs = search needs
 both-requires-5 : tie.Need-both-requires-5
 both-requires-5 c κs = search needs
 
-both-requires-6 : tie.Need-both-requires-6
-both-requires-6 c κs = search needs
+has-waiters-requires : tie.Need-has-waiters-requires
+has-waiters-requires c κs = search needs
 
 pops-nothing-requires : tie.Need-pops-nothing-requires
 pops-nothing-requires c κs = search needs
@@ -74,7 +74,7 @@ abbrev start-7 : tie.Else7 → tie.After-kind-of
 start-7 c = start-6 (c .before .before .before .before)
 
 abbrev start-8 : tie.Else8 → tie.After-kind-of
-start-8 c = start-7 (c .before .before .before .before)
+start-8 c = start-7 (c .before .before)
 
 abbrev start-9 : tie.Else9 → tie.After-kind-of
 start-9 c = start-8 (c .before .before .before .before)
@@ -138,13 +138,12 @@ judged-6 c =
     let a = start-6 (c .before .before .before) .before .args in
     c .both4 .ensures ∙ ap (λ (b : Bool). b && not (eqb (a .n .message .owner) (a .runner))) (c .before .before .names-message2 .ensures)
 
-judged-7 : (c : tie.After-both5) → Judges 7 (c .both5 .result) (start-7 (c .before .before .before))
-unfolding hasWaiters
-judged-7 c = c .both5 .ensures
+judged-7 : (c : tie.After-has-waiters) → Judges 7 (c .has-waiters .result) (start-7 (c .before))
+judged-7 c = c .has-waiters .ensures
 
-judged-8 : (c : tie.After-both6) → Judges 8 (c .both6 .result) (start-8 (c .before .before .before))
+judged-8 : (c : tie.After-both5) → Judges 8 (c .both5 .result) (start-8 (c .before .before .before))
 unfolding notPeriodic
-judged-8 c = c .both6 .ensures
+judged-8 c = c .both5 .ensures
 
 judged-9 : (c : tie.After-pops-nothing) → Judges 9 (c .pops-nothing .result) (start-9 (c .before))
 judged-9 c = c .pops-nothing .ensures
@@ -187,7 +186,7 @@ from-7 : (c : tie.Else7) → From 7 (start-7 c)
 from-7 c = passed (table (start-7 c)) 6 (from-6 (c .before .before .before .before)) (sym (judged-6 (c .before)) ∙ c .if7 .left)
 
 from-8 : (c : tie.Else8) → From 8 (start-8 c)
-from-8 c = passed (table (start-8 c)) 7 (from-7 (c .before .before .before .before)) (sym (judged-7 (c .before)) ∙ c .if8 .left)
+from-8 c = passed (table (start-8 c)) 7 (from-7 (c .before .before)) (sym (judged-7 (c .before)) ∙ c .if8 .left)
 
 from-9 : (c : tie.Else9) → From 9 (start-9 c)
 from-9 c = passed (table (start-9 c)) 8 (from-8 (c .before .before .before .before)) (sym (judged-8 (c .before)) ∙ c .if9 .left)
@@ -229,8 +228,7 @@ returns-7 c =
 
 returns-8 : tie.Need-returns-8
 returns-8 c =
-    decides (table (start-7 (c .before .before .before .before))) 7 (from-7 (c .before .before .before .before))
-    (sym (judged-7 (c .before)) ∙ c .if8 .taken)
+    decides (table (start-7 (c .before .before))) 7 (from-7 (c .before .before)) (sym (judged-7 (c .before)) ∙ c .if8 .taken)
 
 returns-9 : tie.Need-returns-9
 returns-9 c =
@@ -279,9 +277,9 @@ number-of-spec =
     names-message-requires-2
     both-requires-4
     returns-7
-    both-requires-5
+    has-waiters-requires
     returns-8
-    both-requires-6
+    both-requires-5
     returns-9
     pops-nothing-requires
     returns-10
