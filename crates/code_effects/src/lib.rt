@@ -35,6 +35,10 @@ pub fn effect(k: Kernel, c: Call) -> Kernel
         25 => code_messages::destroy_message(k, c),
         26 => code_messages::post_message(k, c),
         27 => code_messages::pend_message(k, c),
+        31 => code_flags::create_flag(k, c),
+        32 => code_flags::destroy_flag(k, c),
+        33 => code_flags::pend_flag(k, c),
+        34 => code_flags::post_flag(k, c),
         _ => k,
     }
 }

@@ -57,7 +57,7 @@ ready-low Asleep p h = refl
 ready-low (ForSemaphore i) p h = le-ltb (1 * 256 + i) 256 (omega arith)
 ready-low (ForEvent i) p h = le-ltb (2 * 256 + i) 256 (omega arith)
 ready-low (ForMessage mask) p h = refl
-ready-low (ForFlag i) p h = le-ltb (2 * 256 + i) 256 (omega arith)
+ready-low (ForFlag i) p h = le-ltb (3 * 256 + i) 256 (omega arith)
 
 home-low : (r : Thread) → (r .live ≡ true → r .priority ≤ priorityCount) → ltb (homeOf r) (home ofSemaphores 0) ≡ isReady r
 unfolding homeOf
@@ -78,7 +78,7 @@ module _ (k : Kernel) where
         event = E .of;
       }
 
-  module _ {waited untrue : ℕ} {t : Threads} (T : OfThreads (k .threads) waited untrue t) where
+  module _ {waited untrue : ℕ} {t : Threads} (T : OfThreads (k .threads) waited untrue (k .flags) t) where
     pub threads-part : Objects waited untrue (k .semaphores) (k .events) (k .bits) → t .kept ≡ threadsKept k
     unfolding threadsKept
     threads-part o = T .kept _ _ _ o

@@ -33,9 +33,10 @@ pub record OfSemaphores (semaphores : List Semaphore) (r : Semaphores) : Type 0 
 abbrev pub OfEvents : List Event → ℕ → ℕ → Type 0
 OfEvents events bits untrue = Tells untrue eventCount (λ i. not (isTrue bits (getD events i noEvent)))
 
-pub record OfThreads (threads : List Thread) (waited untrue : ℕ) (r : Threads) : Type 0 where
+pub record OfThreads (threads : List Thread) (waited untrue flags : ℕ) (r : Threads) : Type 0 where
   pub full : length threads ≡ threadCount
-  pub kept : ByObjects waited untrue (r .kept) (λ semaphores events bits. everyFrom (λ _ t. threadKept semaphores events bits t) 0 threads)
+  pub kept : ByObjects waited untrue (r .kept)
+      (λ semaphores events bits. everyFrom (λ _ t. threadKept semaphores events bits flags t) 0 threads)
   pub homes : Tells (r .homes) threadCount (λ t. hasHome (getD threads t noThread))
   pub ticking : Tells (r .ticking) threadCount (λ t. isTicking (getD threads t noThread))
   pub ready : Tells (r .ready) threadCount (λ t. isReady (getD threads t noThread))

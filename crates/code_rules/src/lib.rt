@@ -54,7 +54,7 @@ pub fn keeps_asked(k: Kernel, threads: bool, messages: bool) -> bool
     if !s.kept {
         return false;
     }
-    let t = told::of_threads(records, s.waited, told::of_events(events, k.bits));
+    let t = told::of_threads(records, s.waited, told::of_events(events, k.bits), k.flags);
     if !t.kept {
         return false;
     }

@@ -18,17 +18,18 @@ use Rattle.spec_rules.specs.Tests.{conditionKept, liveThreadKept, threadKept, l
 use Rattle.code_rules_records.specs.Others.{conditionBy, liveThreadBy, threadBy, liveMessageBy, messageBy, Objects, Owner}
 
 module _ {waited untrue : ℕ} {semaphores : List Semaphore} {events : List Event} {bits : ℕ}
-    (o : Objects waited untrue semaphores events bits) where
-  condition-by : (ticks : ℕ) (c : Condition) → conditionBy waited untrue ticks c ≡ conditionKept semaphores events bits ticks c
+    (o : Objects waited untrue semaphores events bits) (flags : ℕ) where
+  condition-by : (ticks : ℕ) (c : Condition)
+      → conditionBy waited untrue flags ticks c ≡ conditionKept semaphores events bits flags ticks c
   unfolding conditionBy conditionKept
   condition-by ticks Ready = refl
   condition-by ticks Asleep = refl
   condition-by ticks (ForSemaphore i) = o .semaphore i
   condition-by ticks (ForEvent i) = o .event i
   condition-by ticks (ForMessage mask) = refl
-  condition-by ticks (ForFlag i) = o .event i
+  condition-by ticks (ForFlag i) = refl
 
-  pub thread-by : (r : Thread) → threadBy waited untrue r ≡ threadKept semaphores events bits r
+  pub thread-by : (r : Thread) → threadBy waited untrue flags r ≡ threadKept semaphores events bits flags r
   unfolding threadBy liveThreadBy threadKept liveThreadKept
   thread-by r = rw (condition-by (r .ticks) (r .condition))
 

@@ -1,4 +1,5 @@
--- What a record's rules ask of other records, told without the tables: two sets for a thread, its owner for a message. Assumes nothing.
+-- What a record's rules ask of other records, told without the tables: two sets and the live flags for a thread, its owner for a message.
+-- Assumes nothing.
 use Prim.Native.Nat.{ℕ, _<_}
 use mathlib.Core.Path.{_≡_}
 use mathlib.Core.Bool.{Bool, not, cond, _&&_, _||_}
@@ -12,33 +13,33 @@ use Rattle.spec_kernel.specs.declared.records.Thread.{Thread}
 use Rattle.spec_kernel.specs.declared.records.Semaphore.{Semaphore}
 use Rattle.spec_kernel.specs.declared.records.Event.{Event}
 use Rattle.spec_kernel.specs.declared.records.Message.{Message}
-use Rattle.spec_kernel.specs.Records.{noThread}
+use Rattle.spec_kernel.specs.Records.{noThread, flagIn}
 use Rattle.spec_kernel.specs.Sizes.{threadCount, messageCount, priorityCount, channelCount}
 use Rattle.spec_kernel.specs.Conditions.{awaits}
 use Rattle.spec_rules.specs.Tests.{allOf, isNoThread, isNoMessage, semaphoreWaited, eventWaited}
 
--- ---- the rules of a thread, by the sets of semaphores and events that may have waiters
-unfoldable pub conditionBy : ℕ → ℕ → ℕ → Condition → Bool
-conditionBy waited untrue ticks Ready = eqb ticks 0
-conditionBy waited untrue ticks Asleep = ltb 0 ticks
-conditionBy waited untrue ticks (ForSemaphore i) = hasBit waited i
-conditionBy waited untrue ticks (ForEvent i) = hasBit untrue i
-conditionBy waited untrue ticks (ForMessage mask) = ltb 0 mask && leb mask 32767
-conditionBy waited untrue ticks (ForFlag i) = hasBit untrue i
+-- ---- the rules of a thread, by the sets of semaphores and events that may have waiters, and the live flags
+unfoldable pub conditionBy : ℕ → ℕ → ℕ → ℕ → Condition → Bool
+conditionBy waited untrue flags ticks Ready = eqb ticks 0
+conditionBy waited untrue flags ticks Asleep = ltb 0 ticks
+conditionBy waited untrue flags ticks (ForSemaphore i) = hasBit waited i
+conditionBy waited untrue flags ticks (ForEvent i) = hasBit untrue i
+conditionBy waited untrue flags ticks (ForMessage mask) = ltb 0 mask && leb mask 32767
+conditionBy waited untrue flags ticks (ForFlag i) = flagIn flags i
 
-unfoldable pub liveThreadBy : ℕ → ℕ → Thread → Bool
-liveThreadBy waited untrue r =
+unfoldable pub liveThreadBy : ℕ → ℕ → ℕ → Thread → Bool
+liveThreadBy waited untrue flags r =
     allOf
     (ltb 0 (r .priority)
     ∷ leb (r .priority) priorityCount
     ∷ ltb 0 (r .first)
     ∷ leb (r .first) priorityCount
     ∷ (ltb (r .reply) messageCount || eqb (r .reply) 255)
-    ∷ conditionBy waited untrue (r .ticks) (r .condition)
+    ∷ conditionBy waited untrue flags (r .ticks) (r .condition)
     ∷ [])
 
-unfoldable pub threadBy : ℕ → ℕ → Thread → Bool
-threadBy waited untrue r = cond (r .live) (liveThreadBy waited untrue r) (isNoThread r)
+unfoldable pub threadBy : ℕ → ℕ → ℕ → Thread → Bool
+threadBy waited untrue flags r = cond (r .live) (liveThreadBy waited untrue flags r) (isNoThread r)
 
 -- ---- those of a message, by its owner's record
 unfoldable pub liveMessageBy : Thread → Message → Bool

@@ -6,6 +6,7 @@ ghost use Rattle.spec_rules.specs.Tests.{noWake, isNoThread, isNoSemaphore, isN
 ghost use Rattle.spec_rules.specs.Tests.{liveSemaphoreKept, semaphoreKept};
 ghost use Rattle.code_rules_records.specs.Others.{conditionBy, liveThreadBy, threadBy, liveMessageBy, messageBy};
 use base_bits::sets;
+use code_kernel::records::is_flag;
 use spec_kernel::records::Condition;
 use spec_kernel::records::Message;
 use spec_kernel::records::Semaphore;
@@ -70,9 +71,9 @@ pub fn may_have_waiters(r: Semaphore) -> bool
     r.count == 0
 }
 
-// `waited` has the semaphores, and `untrue` the events, that may have waiters.
-fn condition_kept(waited: u64, untrue: u64, ticks: u32, c: Condition) -> bool
-    ensures { λ b. ⌜ b ≡ conditionBy waited untrue ticks c ⌝ }
+// `waited` has the semaphores, and `untrue` the events, that may have waiters; `flags` those that are live.
+fn condition_kept(waited: u64, untrue: u64, flags: u16, ticks: u32, c: Condition) -> bool
+    ensures { λ b. ⌜ b ≡ conditionBy waited untrue flags ticks c ⌝ }
 {
     match c {
         Condition::Ready => ticks == 0,
@@ -85,11 +86,12 @@ fn condition_kept(waited: u64, untrue: u64, ticks: u32, c: Condition) -> bool
             }
             mask <= 32767
         }
+        Condition::ForFlag(i) => is_flag(flags, i),
     }
 }
 
-fn live_thread_kept(waited: u64, untrue: u64, r: Thread) -> bool
-    ensures { λ b. ⌜ b ≡ liveThreadBy waited untrue r ⌝ }
+fn live_thread_kept(waited: u64, untrue: u64, flags: u16, r: Thread) -> bool
+    ensures { λ b. ⌜ b ≡ liveThreadBy waited untrue flags r ⌝ }
 {
     if r.priority == 0 {
         return false;
@@ -109,14 +111,14 @@ fn live_thread_kept(waited: u64, untrue: u64, r: Thread) -> bool
         }
     }
     let c = r.condition;
-    condition_kept(waited, untrue, r.ticks, c)
+    condition_kept(waited, untrue, flags, r.ticks, c)
 }
 
-pub fn thread_kept(waited: u64, untrue: u64, r: Thread) -> bool
-    ensures { λ b. ⌜ b ≡ threadBy waited untrue r ⌝ }
+pub fn thread_kept(waited: u64, untrue: u64, flags: u16, r: Thread) -> bool
+    ensures { λ b. ⌜ b ≡ threadBy waited untrue flags r ⌝ }
 {
     if r.live {
-        live_thread_kept(waited, untrue, r)
+        live_thread_kept(waited, untrue, flags, r)
     } else {
         is_no_thread(r)
     }

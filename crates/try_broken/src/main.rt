@@ -4,11 +4,12 @@
 //   P T C    the places, the time queue, the channels begin anew with this member; then , for the next member,
 //            - for all that follow up to this one, L for this length and garbage in the last place
 //   t        thread of this id; then l for live, p priority, f first priority, k ticks left, w woken, y reply, its condition
-//            R ready, A asleep, S E M waiting for this semaphore, event, mask, and * for all threads like it
+//            R ready, A asleep, S E M G waiting for this semaphore, event, mask, flag, and * for all threads like it
 //   s        semaphore of this id; then l for live, c count, x maximum, k ticks left, d period
 //   e        event of this id; then x for its mask, y for its values
 //   m        message of this id; then l for live, o owner, n sender, z size, h channel, and * for all messages like it
 //   b u v r  the event bits, the unscheduled and the critical level, the runner
+//   g        the live flags, a bit each
 ghost use Prim.Native.Nat.{_≤_};
 ghost use lib.ListN.{length};
 use base_queue::CAPACITY;
@@ -73,6 +74,10 @@ fn changed_condition(r: Thread, c: u8, n: u32) -> Thread {
         },
         b'M' => Thread {
             condition: Condition::ForMessage(half(n)),
+            ..r
+        },
+        b'G' => Thread {
+            condition: Condition::ForFlag(byte(n)),
             ..r
         },
         _ => r,
@@ -271,6 +276,10 @@ fn with_number(k: Kernel, c: u8, n: u32) -> Kernel {
             next.runner = byte(n);
             next
         }
+        b'g' => {
+            next.flags = half(n);
+            next
+        }
         _ => next,
     }
 }
@@ -288,7 +297,7 @@ fn chosen(old: Choice, c: u8, n: u32) -> Choice {
 fn changed(k: Kernel, at: Choice, c: u8, n: u32) -> Kernel {
     match c {
         b'F' => code_kernel::records::fresh(),
-        b'b' | b'u' | b'v' | b'r' => with_number(k, c, n),
+        b'b' | b'u' | b'v' | b'r' | b'g' => with_number(k, c, n),
         _ => {
             let kind = at.kind;
             match kind {

@@ -1,6 +1,6 @@
 -- `code_effects::effect` meets its contract: each arm does what the table has at its kind.
-use Prim.Native.Nat.{ℕ}
-use mathlib.Core.Path.{refl}
+use Prim.Native.Nat.{ℕ, _≤_, _<_}
+use mathlib.Core.Path.{_≡_, refl}
 use mathlib.Core.List.{List, [], _∷_}
 use mathlib.Core.Logic.{⊎-elim, inl, inr}
 use native.Mathlib.Omega.{arith}
@@ -12,7 +12,8 @@ use Rattle.code_effects.proofs.effect.Tie as tie
 
 -- the arms before that of the signals, and 20 of those, the last first
 abbrev arms : List (List ℕ)
-arms = (27 ∷ []) ∷ (26 ∷ []) ∷ (25 ∷ []) ∷ (24 ∷ []) ∷ (21 ∷ []) ∷ (20 ∷ []) ∷ (19 ∷ 28 ∷ []) ∷ singles 18
+arms =
+    (34 ∷ []) ∷ (33 ∷ []) ∷ (32 ∷ []) ∷ (31 ∷ []) ∷ (27 ∷ []) ∷ (26 ∷ []) ∷ (25 ∷ []) ∷ (24 ∷ []) ∷ (21 ∷ []) ∷ (20 ∷ []) ∷ (19 ∷ 28 ∷ []) ∷ singles 18
 
 tick-requires : tie.Need-tick-requires
 tick-requires c κs = search needs
@@ -89,6 +90,18 @@ post-message-requires c κs = search needs
 pend-message-requires : tie.Need-pend-message-requires
 pend-message-requires c κs = search needs
 
+create-flag-requires : tie.Need-create-flag-requires
+create-flag-requires c κs = search needs
+
+destroy-flag-requires : tie.Need-destroy-flag-requires
+destroy-flag-requires c κs = search needs
+
+pend-flag-requires : tie.Need-pend-flag-requires
+pend-flag-requires c κs = search needs
+
+post-flag-requires : tie.Need-post-flag-requires
+post-flag-requires c κs = search needs
+
 returns : tie.Need-returns
 returns c = row _ _ 1 (c .before .match .keys1) (c .tick .ensures)
 
@@ -162,14 +175,32 @@ returns-24 : tie.Need-returns-24
 returns-24 c = row _ _ 27 (c .before .match .keys25) (c .pend-message .ensures)
 
 returns-25 : tie.Need-returns-25
-returns-25 c = row _ _ 0 (omega arith) refl
+returns-25 c = row _ _ 31 (c .before .match .keys26) (c .create-flag .ensures)
 
 returns-26 : tie.Need-returns-26
-returns-26 c = does-past _ _ (omega arith)
+returns-26 c = row _ _ 32 (c .before .match .keys27) (c .destroy-flag .ensures)
+
+returns-27 : tie.Need-returns-27
+returns-27 c = row _ _ 33 (c .before .match .keys28) (c .pend-flag .ensures)
+
+returns-28 : tie.Need-returns-28
+returns-28 c = row _ _ 34 (c .before .match .keys29) (c .post-flag .ensures)
+
+returns-29 : tie.Need-returns-29
+returns-29 c = row _ _ 0 (omega arith) refl
+
+-- above 30, only the flags' kinds are any
+past : (n : ℕ) → 30 < n → (n ≡ 31 → ⊥) → (n ≡ 32 → ⊥) → (n ≡ 33 → ⊥) → (n ≡ 34 → ⊥) → 35 ≤ n
+past n h a b d e = omega arith
+
+returns-30 : tie.Need-returns-30
+returns-30 c =
+    let r = c .before .before .match .rest in
+    does-past _ _ (past _ (c .if2 .left) (r .0 .0 .0 .1) (r .0 .0 .1) (r .0 .1) (r .1))
 
 -- of 1 to 30, 20 and the kinds that no arm has
-returns-27 : tie.Need-returns-27
-returns-27 c =
+returns-31 : tie.Need-returns-31
+returns-31 c =
     signals _ _ (c .signalled .ensures)
     (⊎-elim (λ w. inl (w .keys20))
     (λ w. inr (left-over (22 ∷ 23 ∷ 29 ∷ 30 ∷ []) arms _ 30 refl (w .0 .rest) (w .1 .left) (omega (arith, w .2 .taken))))
@@ -203,6 +234,10 @@ effect-spec =
     destroy-message-requires
     post-message-requires
     pend-message-requires
+    create-flag-requires
+    destroy-flag-requires
+    pend-flag-requires
+    post-flag-requires
     signalled-requires
     returns
     returns-2
@@ -230,4 +265,8 @@ effect-spec =
     returns-24
     returns-25
     returns-26
-    returns-27)
+    returns-27
+    returns-28
+    returns-29
+    returns-30
+    returns-31)

@@ -27,6 +27,12 @@ has-requires-2 c κs = search needs
 enum-known-c-3 : tie.Need-enum-known-c-3
 enum-known-c-3 c = search needs
 
+enum-known-c-4 : tie.Need-enum-known-c-4
+enum-known-c-4 c = search needs
+
+is-flag-requires : tie.Need-is-flag-requires
+is-flag-requires c κs = search needs
+
 returns : tie.Need-returns
 unfolding conditionBy
 returns c =
@@ -55,6 +61,10 @@ returns-6 c =
     let m = c .before .before .c3 .given in
     rw (m .1, lt-ltb 0 (m .0 .0) (omega arith))
 
+returns-7 : tie.Need-returns-7
+unfolding conditionBy
+returns-7 c = rw (c .before .before .c4 .given .1) (c .is-flag .ensures)
+
 pub condition-kept-spec : {M : Type 1} → statement M
 condition-kept-spec =
     tie.close
@@ -67,8 +77,11 @@ condition-kept-spec =
     has-requires-2
     enum-known-c-3
     returns
+    enum-known-c-4
+    is-flag-requires
     returns-2
     returns-3
     returns-4
     returns-5
-    returns-6)
+    returns-6
+    returns-7)

@@ -24,9 +24,9 @@ out-of-range : (p : ℕ) (rest : Bool) → (0 < p → priorityCount < p) → fal
 out-of-range p rest h =
     cases (ltb 0 p) (λ e. goes e (stops _ (lt-leb p priorityCount (h (ltb-true 0 p e))))) (λ e. stops _ e)
 
-module _ (waited untrue : ℕ) (r : Thread) where
+module _ (waited untrue flags : ℕ) (r : Thread) where
   abbrev kept : Bool
-  kept = liveThreadBy waited untrue r
+  kept = liveThreadBy waited untrue flags r
 
   priority-out : (0 < r .priority → priorityCount < r .priority) → false ≡ kept
   unfolding liveThreadBy
@@ -47,24 +47,24 @@ module _ (waited untrue : ℕ) (r : Thread) where
 
       -- the condition decides
       rest : {b : Bool} → (ltb (r .reply) messageCount || eqb (r .reply) 255) ≡ true
-          → b ≡ conditionBy waited untrue (r .ticks) (r .condition) → b ≡ kept
+          → b ≡ conditionBy waited untrue flags (r .ticks) (r .condition) → b ≡ kept
       unfolding liveThreadBy
       rest h e = in-range (r .priority) p (in-range (r .first) f (goes h (ends e)))
 
 returns : tie.Need-returns
-returns c = priority-out _ _ _ (λ h. omega arith)
+returns c = priority-out _ _ _ _ (λ h. omega arith)
 
 returns-2 : tie.Need-returns-2
-returns-2 c = priority-out _ _ _ (λ h. omega arith)
+returns-2 c = priority-out _ _ _ _ (λ h. omega arith)
 
 returns-3 : tie.Need-returns-3
-returns-3 c = first-out _ _ _ (omega arith, omega arith) (λ h. omega arith)
+returns-3 c = first-out _ _ _ _ (omega arith, omega arith) (λ h. omega arith)
 
 returns-4 : tie.Need-returns-4
-returns-4 c = first-out _ _ _ (omega arith, omega arith) (λ h. omega arith)
+returns-4 c = first-out _ _ _ _ (omega arith, omega arith) (λ h. omega arith)
 
 returns-5 : tie.Need-returns-5
-returns-5 c = reply-out _ _ _ (omega arith, omega arith) (omega arith, omega arith) (omega arith) (c .if6 .taken)
+returns-5 c = reply-out _ _ _ _ (omega arith, omega arith) (omega arith, omega arith) (omega arith) (c .if6 .taken)
 
 condition-kept-requires : tie.Need-condition-kept-requires
 condition-kept-requires c κs = search needs
@@ -72,7 +72,7 @@ condition-kept-requires c κs = search needs
 -- where the arms meet, the reply is as it should be
 returns-6 : tie.Need-returns-6
 returns-6 c =
-    rest _ _ _ (omega arith, omega arith) (omega arith, omega arith)
+    rest _ _ _ _ (omega arith, omega arith) (omega arith, omega arith)
     (⊎-elim (λ w. rw (eq-eqb _ _ (w .2 .left), or-true)) (λ w. rw (lt-ltb _ _ (w .left))) (c .before .if5 .came))
     (c .condition-kept .ensures)
 

@@ -25,11 +25,12 @@ use Rattle.code_rules.proofs.told.of_threads.Statement.{statement}
 use Rattle.code_rules.proofs.told.of_threads.Tie as tie
 
 abbrev Inv-loop : tie.InvT-loop
-Inv-loop waited untrue threads kept₀ homes₀ ticking₀ ready₀ ranks₀ ticks₀ t₀ kept homes ticking ready ranks ticks t =
+Inv-loop waited untrue flags threads kept₀ homes₀ ticking₀ ready₀ ranks₀ ticks₀ t₀ kept homes ticking ready ranks ticks t =
     (length threads ≡ threadCount)
     × (t ≤ threadCount)
     × ((semaphores : List Semaphore) (events : List Event) (bits : ℕ) → Objects waited untrue semaphores events bits
-    → Sweep (everyFrom (λ _ r. threadKept semaphores events bits r) 0 threads) kept (threadKept semaphores events bits) threads t)
+    → Sweep (everyFrom (λ _ r. threadKept semaphores events bits flags r) 0 threads) kept (threadKept semaphores events bits flags)
+    threads t)
     × Tells homes t (λ x. hasHome (getD threads x noThread))
     × Tells ticking t (λ x. isTicking (getD threads x noThread))
     × Tells ready t (λ x. isReady (getD threads x noThread))
@@ -37,7 +38,7 @@ Inv-loop waited untrue threads kept₀ homes₀ ticking₀ ready₀ ranks₀ tic
     × Keys ticks t (λ x. getD threads x noThread .ticks)
 
 abbrev μ-loop : tie.MeasureT-loop
-μ-loop waited untrue threads kept₀ homes₀ ticking₀ ready₀ ranks₀ ticks₀ t₀ kept homes ticking ready ranks ticks t = threadCount - t
+μ-loop waited untrue flags threads kept₀ homes₀ ticking₀ ready₀ ranks₀ ticks₀ t₀ kept homes ticking ready ranks ticks t = threadCount - t
 
 loop-holds : tie.Need-loop-holds Inv-loop μ-loop
 loop-holds c =
@@ -45,7 +46,7 @@ loop-holds c =
     let e : length l ≡ threadCount = search needs in (
       e,
       omega arith,
-      λ semaphores events bits _. sweep-starts (threadKept semaphores events bits) l,
+      λ semaphores events bits _. sweep-starts (threadKept semaphores events bits (c .args .flags)) l,
       tells-none _,
       tells-none _,
       tells-none _,
@@ -112,7 +113,7 @@ loop-again c =
       l .inv .0,
       omega arith,
       λ semaphores events bits o. sweep-next (l .inv .2 semaphores events bits o) noThread (omega arith)
-          (b .both .ensures ∙ ap (λ (x : Bool). l .kept && x) (k .thread-kept .ensures ∙ thread-by o _)),
+          (b .both .ensures ∙ ap (λ (x : Bool). l .kept && x) (k .thread-kept .ensures ∙ thread-by o _ _)),
       tells-more (l .inv .3) (omega arith) (homes .joined .ensures) (homes .before .has-home .ensures),
       tells-more (l .inv .4) (omega arith) (ticking .joined2 .ensures) refl,
       tells-more (l .inv .5) (omega arith) (ready .joined3 .ensures) (ready .before .is-ready .ensures),
