@@ -33,11 +33,11 @@ Typed r = (r .priority < 256) × (r .first < 256) × (conditionData (r .conditio
 
 -- an id is cut to the field of its code
 data-fit : (c : Call) (r : Thread) (code : ℕ) → c .a < 256 → conditionData (r .condition) < 65536
-    → cond (ltb 2 code) (cond (isOneOf c (19 ∷ 28 ∷ [])) (c .a) (dataNow code (r .condition))) 0 < 256 ^ cond (eqb code 5) 2 1
+    → cond (ltb 2 code) (cond (isOneOf c (19 ∷ 28 ∷ 34 ∷ [])) (c .a) (dataNow code (r .condition))) 0 < 256 ^ cond (eqb code 5) 2 1
 data-fit c r code a d =
     cases (eqb code 5)
-    (λ e. rw e (below (ltb 2 code) _ 0 65536 (below (isOneOf c (19 ∷ 28 ∷ [])) (c .a) _ _ (omega arith) d) (omega arith)))
-    (λ e. rw e (below (ltb 2 code) _ 0 256 (below (isOneOf c (19 ∷ 28 ∷ [])) (c .a) _ _ a (omega arith)) (omega arith)))
+    (λ e. rw e (below (ltb 2 code) _ 0 65536 (below (isOneOf c (19 ∷ 28 ∷ 34 ∷ [])) (c .a) _ _ (omega arith) d) (omega arith)))
+    (λ e. rw e (below (ltb 2 code) _ 0 256 (below (isOneOf c (19 ∷ 28 ∷ 34 ∷ [])) (c .a) _ _ a (omega arith)) (omega arith)))
 
 predicted-fit : (c : Call) (r : Thread) (code : ℕ) → c .a < 256 → Typed r → Fit (threadWidths code) (predictedThread c r code)
 unfolding predictedThread
@@ -49,7 +49,8 @@ predicted-fit c r code a (p, f, d, t, y) =
     let left = below (wasBlocked code) _ 0 4294967296 (below (is c 1) 1 _ _ (omega arith) t) (omega arith) in
     let wake = below woken 0 _ 256 (omega arith) (below (blocks code r) 1 _ _ (omega arith) (wake-below (r .wake))) in
     let reply = below (eqb code 0) 0 _ 256 (omega arith) (below (not (r .live) || woken) 255 _ _ (omega arith) y) in
-    let place = below (eqb code 1 || eqb code 3 || eqb code 4) 0 255 256 (omega arith) (omega arith) in
+    let listed = below (eqb code 1 || eqb code 3 || eqb code 4 || eqb code 6) 0 255 256 (omega arith) (omega arith) in
+    let place = below (is c 34) 1 _ 256 (omega arith) listed in
     let due = below (eqb code 2 || (is c 1 && wasBlocked code)) 0 255 256 (omega arith) (omega arith) in
     (priority, (first, (what, (left, (wake, (reply, (place, (due, tt))))))))
 

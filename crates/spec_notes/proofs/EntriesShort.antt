@@ -30,7 +30,7 @@ use Rattle.spec_notes.specs.Rows.{threadCode, threadWidths, semaphoreWid
 use Rattle.spec_notes.specs.Predicted.{predictedMessage, predictedFlags}
 use Rattle.spec_notes.specs.Sections.{entriesFrom, threadEntry, threadEntries, threadsSection, semaphoreEntry, semaphoreEntries}
 use Rattle.spec_notes.specs.Sections.{semaphoresSection, eventEntry, eventEntries, bitNoted, eventsSection, messageEntry}
-use Rattle.spec_notes.specs.Sections.{flagsSection, messageEntries, messagesSection, levelsNoted, schedulerSection}
+use Rattle.spec_notes.specs.Sections.{flagsNoted, flagsSection, messageEntries, messagesSection, levelsNoted, schedulerSection}
 use Rattle.spec_notes.proofs.Counting.{countFrom}
 
 -- ---- entries
@@ -148,6 +148,9 @@ module _ (old new : List Event) where
 pub bit-short : (old new : ℕ) → length (bitNoted old new) ≤ 1
 bit-short old new = cases (eqb old new) (λ e. rw e (omega arith)) (λ e. rw e (omega arith))
 
+pub flags-short : (old predicted : ℕ) → length (flagsNoted old predicted) ≤ 1
+flags-short old predicted = cases (eqb old predicted) (λ e. rw e (omega arith)) (λ e. rw e (omega arith))
+
 -- ---- a section
 module _ (k : Kernel) (c : Call) (k′ : Kernel) where
   pub scheduler-short : length (schedulerSection k c k′) ≤ 4
@@ -169,7 +172,7 @@ module _ (k : Kernel) (c : Call) (k′ : Kernel) where
 
   pub flags-below : length (flagsSection k c k′) ≤ 1
   unfolding flagsSection
-  flags-below = cases (eqb (k .flags) (predictedFlags c (k′ .flags))) (λ e. rw e (omega arith)) (λ e. rw e (omega arith))
+  flags-below = flags-short (k .flags) (predictedFlags c (k′ .flags))
 
   pub messages-below : length (messagesSection k c k′) ≤ 17 * messageCount
   unfolding messagesSection

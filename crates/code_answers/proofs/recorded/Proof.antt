@@ -96,6 +96,12 @@ slice-aggregate-put-event-part c = search needs
 put-event-part-requires : tie.Need-put-event-part-requires
 put-event-part-requires c κs = search needs
 
+slice-aggregate-put-flag-part : tie.Need-slice-aggregate-put-flag-part
+slice-aggregate-put-flag-part c = search needs
+
+put-flag-part-requires : tie.Need-put-flag-part-requires
+put-flag-part-requires c κs = search needs
+
 slice-aggregate-put-message-part : tie.Need-slice-aggregate-put-message-part
 slice-aggregate-put-message-part c = search needs
 
@@ -103,8 +109,11 @@ put-message-part-requires : tie.Need-put-message-part-requires
 put-message-part-requires c κs = search needs
 
 -- ---- the steps before a step, by their names
+abbrev flags-of : tie.After-put-message-part → tie.After-put-flag-part
+flags-of c = c .before .before .before
+
 abbrev events-of : tie.After-put-message-part → tie.After-put-event-part
-events-of c = c .before .before .before
+events-of c = flags-of c .before .before .before
 
 abbrev semaphores-of : tie.After-put-message-part → tie.After-put-semaphore-part
 semaphores-of c = events-of c .before .before .before
@@ -146,10 +155,10 @@ sections : (c : tie.After-put-message-part)
     → pen (c .put-message-part .last .0) (c .put-message-part .result)
     ≡ puts (pen (replicate longestNote 0) 0) (beforeLength (kernel c) (record-bytes c) (next c))
 sections c =
-    one-by-one (kernel c) (next c) (record-bytes c) _ (named c) _ _ _ _ _ _ (all (number-of c .before .before .before .before)) (accepts c)
+    one-by-one (kernel c) (next c) (record-bytes c) _ (named c) _ _ _ _ _ _ _ (all (number-of c .before .before .before .before)) (accepts c)
     (number-of c .before .before .call-of .ensures) (number-of c .before .named-by .ensures) (leads c) (start-of c .put-start .ensures)
     (threads-of c .put-thread-part .ensures) (semaphores-of c .put-semaphore-part .ensures) (events-of c .put-event-part .ensures)
-    (c .put-message-part .ensures)
+    (flags-of c .put-flag-part .ensures) (c .put-message-part .ensures)
 
 slice-aggregate-put-end : tie.Need-slice-aggregate-put-end
 slice-aggregate-put-end c = search needs
@@ -250,6 +259,8 @@ recorded-spec =
     put-semaphore-part-requires
     slice-aggregate-put-event-part
     put-event-part-requires
+    slice-aggregate-put-flag-part
+    put-flag-part-requires
     slice-aggregate-put-message-part
     put-message-part-requires
     slice-aggregate-put-end

@@ -10,31 +10,33 @@ use Rattle.spec_moves.specs.declared.parts.Posts.{Posts}
 use Rattle.spec_moves.specs.Standing.{threadsOf, postsOf}
 use Rattle.spec_moves.specs.States.{stateOf}
 use Rattle.spec_calls.specs.declared.call.Call.{Call}
-use Rattle.spec_notes.specs.Notes.{sectionCount, threadsIn, semaphoresIn, eventsIn, messagesIn}
+use Rattle.spec_notes.specs.Notes.{sectionCount, threadsIn, semaphoresIn, eventsIn, flagsIn, messagesIn}
 use Rattle.spec_notes.specs.Frames.{sectionsAt}
-use Rattle.spec_notes.specs.Back.{semaphoresBefore, eventsBefore, bitsBefore, earlier, threadsBack, postsBack, beforeAt}
+use Rattle.spec_notes.specs.Back.{semaphoresBefore, eventsBefore, bitsBefore, flagsBefore, earlier, threadsBack, postsBack, beforeAt}
 use borrow.Author.Needs.{needs}
 use Rattle.code_notes_back.proofs.state_back.before_at.Statement.{statement}
 use Rattle.code_notes_back.proofs.state_back.before_at.Tie as tie
 
 -- the state that the parts make, of the bytes of their sections
 together : (c : Call) (k : Kernel) (x : List (List ℕ)) (u v runner : ℕ) {old t : Threads} {m : Posts}
-    {semaphores : List Semaphore} {events : List Event} {bits uptime : ℕ} {ts ss es ms : List ℕ}
+    {semaphores : List Semaphore} {events : List Event} {bits uptime flags : ℕ} {ts ss es ms fs : List ℕ}
     → old ≡ threadsOf k
     → ts ≡ threadsIn x
     → ss ≡ semaphoresIn x
     → es ≡ eventsIn x
     → ms ≡ messagesIn x
+    → fs ≡ flagsIn x
     → t ≡ threadsBack c old ts
     → m ≡ postsBack c (k .runner) (postsOf k) ms
     → semaphores ≡ semaphoresBefore c (k .semaphores) ss
     → events ≡ eventsBefore (k .events) es
     → bits ≡ bitsBefore c (k .bits) es
     → uptime ≡ earlier c (k .uptime)
-    → stateOf t semaphores events bits m uptime u v runner ≡ beforeAt c k x u v runner
+    → flags ≡ flagsBefore c (k .flags) fs
+    → stateOf t semaphores events bits flags m uptime u v runner ≡ beforeAt c k x u v runner
 unfolding beforeAt
-together c k x u v runner old ts ss es ms threads posts semaphores events bits uptime =
-    rw (threads, posts, semaphores, events, bits, uptime, old, ts, ss, es, ms)
+together c k x u v runner old ts ss es ms fs threads posts semaphores events bits uptime flags =
+    rw (threads, posts, semaphores, events, bits, uptime, flags, old, ts, ss, es, ms, fs)
 
 threads-of-requires : tie.Need-threads-of-requires
 threads-of-requires c κs = search needs
@@ -69,6 +71,12 @@ bits-before-requires c κs = search needs
 earlier-requires : tie.Need-earlier-requires
 earlier-requires c κs = search needs
 
+section-of-requires-5 : tie.Need-section-of-requires-5
+section-of-requires-5 c κs = search needs
+
+flags-before-requires : tie.Need-flags-before-requires
+flags-before-requires c κs = search needs
+
 -- ---- the steps before the last, by what they give
 abbrev events-of : tie.After-earlier → tie.After-events-before
 events-of c = c .before .before
@@ -100,19 +108,22 @@ start-of c = thread-bytes-of c .before .before .before .before .before
 
 returns : tie.Need-returns
 returns c =
-    let a = start-of c .args in
+    let e = c .before .before in
+    let a = start-of e .args in
     together (a .c) (a .k) (sectionsAt sectionCount (a .s .now)) (a .u) (a .v) (a .runner)
-    (thread-bytes-of c .before .threads-of .ensures)
-    (thread-bytes-of c .section-of .ensures)
-    (semaphore-bytes-of c .section-of4 .ensures)
-    (event-bytes-of c .section-of3 .ensures)
-    (message-bytes-of c .section-of2 .ensures)
-    (threads-of c .threads-back .ensures)
-    (posts-of c .posts-back .ensures)
-    (events-of c .before .semaphores-before .ensures)
-    (events-of c .events-before .ensures)
-    (c .before .bits-before .ensures)
-    (c .earlier .ensures)
+    (thread-bytes-of e .before .threads-of .ensures)
+    (thread-bytes-of e .section-of .ensures)
+    (semaphore-bytes-of e .section-of4 .ensures)
+    (event-bytes-of e .section-of3 .ensures)
+    (message-bytes-of e .section-of2 .ensures)
+    (c .before .section-of5 .ensures)
+    (threads-of e .threads-back .ensures)
+    (posts-of e .posts-back .ensures)
+    (events-of e .before .semaphores-before .ensures)
+    (events-of e .events-before .ensures)
+    (e .before .bits-before .ensures)
+    (e .earlier .ensures)
+    (c .flags-before .ensures)
 
 pub before-at-spec : {M : Type 1} → statement M
 before-at-spec =
@@ -129,4 +140,6 @@ before-at-spec =
     events-before-requires
     bits-before-requires
     earlier-requires
+    section-of-requires-5
+    flags-before-requires
     returns)
