@@ -20,7 +20,7 @@ pub still : (asked new old : Bool) → old ≡ true → (asked ≡ false → new
 still true new old t same = refl
 still false new old t same = sym (same refl ∙ t)
 
-neither : (a b : Bool) → (a || b) ≡ false → (a ≡ false) × (b ≡ false)
+pub neither : (a b : Bool) → (a || b) ≡ false → (a ≡ false) × (b ≡ false)
 neither true b h = absurd (false≢true (sym h))
 neither false b h = (refl, h)
 

@@ -4,12 +4,13 @@ use mathlib.Core.Bool.{Bool, true}
 use mathlib.Core.Logic.{_↔_}
 use borrow.Author.Needs.{needs}
 use Rattle.spec_kernel.specs.declared.records.Kernel.{Kernel}
+use Rattle.spec_rules.specs.Tests.{allAsked}
 use Rattle.spec_notes.specs.Same.{sameKernel, sameAsked}
 use Rattle.spec_notes.proofs.SameStates.{same-exactly}
 use Rattle.code_notes_same.proofs.same_kernel.Statement.{statement}
 use Rattle.code_notes_same.proofs.same_kernel.Tie as tie
 
-told : (a b : Kernel) (r : Bool) → r ≡ sameAsked true true a b → (r ≡ sameKernel a b) × ((r ≡ true) ↔ (a ≡ b))
+told : (a b : Kernel) (r : Bool) → r ≡ sameAsked allAsked a b → (r ≡ sameKernel a b) × ((r ≡ true) ↔ (a ≡ b))
 unfolding sameAsked sameKernel
 told a b r e = (e, rw e (same-exactly a b))
 
