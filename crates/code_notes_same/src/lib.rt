@@ -60,7 +60,11 @@ fn same_semaphores(a: [Semaphore; sizes::SEMAPHORES], b: [Semaphore; sizes::SEMA
     true
 }
 
-fn semaphores_if(asked: bool, a: [Semaphore; sizes::SEMAPHORES], b: [Semaphore; sizes::SEMAPHORES]) -> bool
+fn semaphores_if(
+    asked: bool,
+    a: [Semaphore; sizes::SEMAPHORES],
+    b: [Semaphore; sizes::SEMAPHORES],
+) -> bool
     ensures { λ r. ⌜ r ≡ ifAsked asked (sameAll sameSemaphore a b) ⌝ }
 {
     if !asked {

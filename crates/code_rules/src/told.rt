@@ -99,7 +99,10 @@ pub fn of_threads(threads: [Thread; sizes::THREADS], waited: u64, untrue: u64) -
 }
 
 // Which messages belong in the channels.
-pub fn of_messages(messages: [Message; sizes::MESSAGES], threads: [Thread; sizes::THREADS]) -> Messages
+pub fn of_messages(
+    messages: [Message; sizes::MESSAGES],
+    threads: [Thread; sizes::THREADS],
+) -> Messages
     ensures { λ r. ⌜ OfMessages messages threads r ⌝ }
 {
     let mut kept = true;

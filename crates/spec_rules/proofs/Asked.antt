@@ -46,7 +46,8 @@ module _ (e k : Kernel) (t : keepsRules e ≡ true) {asked : Asked} (U : Unasked
   unfolding placesKept
   places-same h =
       ap (λ (p : Threads). allOf
-      (isTidy (p .places) ∷ isPlaced hasHome (p .records) (items (p .places)) ∷ inRank (p .records) (items (p .places)) ∷ [])) (U .threads h)
+      (isTidy (p .places) ∷ isPlaced hasHome (p .records) (items (p .places)) ∷ inRank (p .records) (items (p .places)) ∷ []))
+      (U .threads h)
 
   time-same : asked .threads ≡ false → timeKept k ≡ timeKept e
   unfolding timeKept

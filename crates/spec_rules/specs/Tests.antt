@@ -186,7 +186,3 @@ keepsAsked asked k =
     ∷ ifAsked (ownersAsked asked) (messagesKept k)
     ∷ runnerKept k
     ∷ [])
-
--- everything may be another one
-abbrev pub allAsked : Asked
-allAsked = record { threads = true; semaphores = true; events = true; messages = true }
