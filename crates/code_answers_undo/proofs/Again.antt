@@ -12,6 +12,7 @@ use borrow.Table.Steps.{cases}
 use Rattle.base_bytes.specs.Bytes.{un}
 use Rattle.base_bytes.proofs.Appending.{noted-room}
 use Rattle.spec_kernel.specs.declared.records.Kernel.{Kernel}
+use Rattle.spec_rules.specs.declared.tests.Asked.{Asked}
 use Rattle.spec_rules.specs.Tests.{keepsAsked}
 use Rattle.spec_calls.specs.declared.call.Call.{Call}
 use Rattle.spec_calls.specs.Calls.{callOf}
@@ -23,7 +24,7 @@ use Rattle.spec_notes.specs.Notes.{sectionCount, longestNote}
 use Rattle.spec_notes.specs.Back.{stateBefore}
 use Rattle.spec_notes.specs.Frames.{nothing, sections, isWhole, areWhole, sectionBytes, framesOf}
 use Rattle.spec_notes.specs.Undo.{lastLength, hasLast, lastNote}
-use Rattle.spec_notes.specs.Undoes.{callBytes, backFrom, isDecoded, levelsFit, threadsAsked, messagesAsked, yieldsAsked}
+use Rattle.spec_notes.specs.Undoes.{callBytes, backFrom, isDecoded, levelsFit, askedBy, yieldsAsked}
 use Rattle.spec_notes.specs.Undoes.{undoesNoteKept, undoesKept}
 use Rattle.code_notes.proofs.BeforeLength.{note-short}
 use Rattle.code_notes_back.specs.declared.state_back.Back.{Back}
@@ -71,35 +72,35 @@ module _ (k : Kernel) (bytes : List ℕ) (sixteen : length bytes ≡ 16) (s : Lo
         f ∙ rw (y, noted-room (replicate longestNote 0) 0 (noteFor k bytes) room-for-any) in
         (rw (g, length-append, u) (omega arith), rw (g, u) (take-at (noteFor k bytes) _ _ refl), u)
 
-module _ (t m : Bool) (k : Kernel) (bytes : List ℕ) (end : Kernel) (note : List ℕ) where
-  pub levels-pass : levelsFit k ≡ false → yieldsAsked t m k bytes end note ≡ false
+module _ (a : Asked) (k : Kernel) (bytes : List ℕ) (end : Kernel) (note : List ℕ) where
+  pub levels-pass : levelsFit k ≡ false → yieldsAsked a k bytes end note ≡ false
   unfolding yieldsAsked
   levels-pass e = rw e
 
   module _ (l : levelsFit k ≡ true) where
-    pub again-broken : keepsAsked t m k ≡ false → false ≡ yieldsAsked t m k bytes end note
+    pub again-broken : keepsAsked a k ≡ false → false ≡ yieldsAsked a k bytes end note
     unfolding yieldsAsked
     again-broken e = rw (l, e)
 
-    module _ (r : keepsAsked t m k ≡ true) where
-      pub again-refused : eqb (numberOf k (callOf bytes)) 0 ≡ false → false ≡ yieldsAsked t m k bytes end note
+    module _ (r : keepsAsked a k ≡ true) where
+      pub again-refused : eqb (numberOf k (callOf bytes)) 0 ≡ false → false ≡ yieldsAsked a k bytes end note
       unfolding yieldsAsked
       again-refused n = rw (l, r, n)
 
       module _ (n : numberOf k (callOf bytes) ≡ 0) where
-        pub again-other : false ≡ sameRow (noteFor k bytes) note → false ≡ yieldsAsked t m k bytes end note
+        pub again-other : false ≡ sameRow (noteFor k bytes) note → false ≡ yieldsAsked a k bytes end note
         unfolding yieldsAsked noteFor
         again-other h = rw (l, r, n, sym h)
 
         pub again-same : true ≡ sameRow (noteFor k bytes) note → (next : Kernel) → next ≡ stateAfter k bytes
-            → sameAsked t m next end ≡ yieldsAsked t m k bytes end note
+            → sameAsked a next end ≡ yieldsAsked a k bytes end note
         unfolding yieldsAsked noteFor
-        again-same h next e = ap (λ (u : Kernel). sameAsked t m u end) e ∙ rw (l, r, n, sym h, and-true)
+        again-same h next e = ap (λ (u : Kernel). sameAsked a u end) e ∙ rw (l, r, n, sym h, and-true)
 
 -- by equals
-pub asked-by : {t t′ m m′ : Bool} {k k′ : Kernel} {bytes bytes′ : List ℕ} (end : Kernel) (note : List ℕ)
-    → t ≡ t′ → m ≡ m′ → k ≡ k′ → bytes ≡ bytes′ → yieldsAsked t m k bytes end note ≡ yieldsAsked t′ m′ k′ bytes′ end note
-asked-by end note a b c d = rw (a, b, c, d)
+pub asked-by : {a a′ : Asked} {k k′ : Kernel} {bytes bytes′ : List ℕ} (end : Kernel) (note : List ℕ)
+    → a ≡ a′ → k ≡ k′ → bytes ≡ bytes′ → yieldsAsked a k bytes end note ≡ yieldsAsked a′ k′ bytes′ end note
+asked-by end note a k b = rw (a, k, b)
 
 -- ---- the frame
 none-whole : areWhole sectionCount [] ≡ false
@@ -126,7 +127,7 @@ module _ (k : Kernel) (note : List ℕ) where
     framed-back = rw e
 
     abbrev pub asked : Kernel → Bool
-    asked old = yieldsAsked (threadsAsked (callOf (callBytes note)) x) (messagesAsked x) old (callBytes note) k note
+    asked old = yieldsAsked (askedBy (callOf (callBytes note)) x) old (callBytes note) k note
 
     pub framed-undoes : undoesNoteKept k note ≡ asked (stateBefore (callOf (callBytes note)) k x)
     unfolding undoesNoteKept backFrom
@@ -146,7 +147,7 @@ module _ (k : Kernel) (note : List ℕ) where
       left-other h = rw (framed-undoes, h)
 
       pub left-unfit : levelsFit old ≡ false → logged (answer 15 255 (k .runner)) k used ≡ left
-      left-unfit h = left-other (levels-pass _ _ old (callBytes note) k note h)
+      left-unfit h = left-other (levels-pass _ old (callBytes note) k note h)
 
       pub left-back : asked old ≡ true → logged (answer 0 255 (old .runner)) old before ≡ left
       left-back h = rw (framed-undoes, h, framed-back)

@@ -1,7 +1,11 @@
 // A note undone: put back, the rules tested, the call run again, and the note and the state compared.
 ghost use mathlib.Core.Path.{_≡_};
-ghost use mathlib.Core.Bool.{true, cond};
-ghost use Rattle.spec_notes.specs.Undoes.{backFrom, levelsFit, threadsAsked, messagesAsked, yieldsAsked, undoesNoteKept};
+ghost use mathlib.Core.Bool.{true, not, cond, _||_};
+ghost use mathlib.Core.List.{[]};
+ghost use lib.ListN.{getD};
+ghost use Rattle.base_queue.specs.Lists.{isEmpty};
+ghost use Rattle.spec_refusals.specs.Refusals.{is};
+ghost use Rattle.spec_notes.specs.Undoes.{backFrom, levelsFit, askedBy, yieldsAsked, undoesNoteKept};
 ghost use Rattle.spec_notes.specs.Notes.{sectionCount};
 ghost use Rattle.spec_notes.specs.Frames.{sectionsAt};
 ghost use Rattle.spec_answers.specs.Steps.{answer};
@@ -19,38 +23,46 @@ use spec_answers::Answer;
 use spec_answers::Logged;
 use spec_calls::call::Call;
 use spec_kernel::records::Kernel;
+use spec_rules::tests::Asked;
 
 pub mod kept;
 
-// Whether threads may be others than in the end state: where the note has a section of them, and where time passes.
-fn threads_asked(c: Call, s: &[u8]) -> bool
-    ensures { λ r. ⌜ r ≡ threadsAsked c (sectionsAt sectionCount (now (s .entry))) ⌝ }
+// Whether the note speaks of the table whose section has this place.
+fn speaks_of(s: &[u8], i: usize) -> bool
+    ensures { λ r. ⌜ r ≡ not (isEmpty (getD (sectionsAt sectionCount (now (s .entry))) i [])) ⌝ }
 {
-    if c.kind == 1 {
-        return true;
-    }
-    frames::section_of(s, frames::THREADS_AT).len() != 0
+    frames::section_of(s, i).len() != 0
 }
 
-// Whether messages may: where the note has a section of them.
-fn messages_asked(s: &[u8]) -> bool
-    ensures { λ r. ⌜ r ≡ messagesAsked (sectionsAt sectionCount (now (s .entry))) ⌝ }
+// Whether it may be another one: so too where the call is of this kind, which changes it and needs no section for that.
+fn may_differ(c: Call, kind: u8, s: &[u8], i: usize) -> bool
+    ensures { λ r. ⌜ r ≡ (is c kind || not (isEmpty (getD (sectionsAt sectionCount (now (s .entry))) i []))) ⌝ }
 {
-    frames::section_of(s, frames::MESSAGES_AT).len() != 0
+    if c.kind == kind {
+        return true;
+    }
+    speaks_of(s, i)
+}
+
+// Which tables may be others than in the end state: those that the note speaks of, those that time ages where it passes, and the flags where
+// one is destroyed.
+fn asked_by(c: Call, s: &[u8]) -> Asked
+    ensures { λ r. ⌜ r ≡ askedBy c (sectionsAt sectionCount (now (s .entry))) ⌝ }
+{
+    Asked {
+        threads: may_differ(c, 1, s, frames::THREADS_AT),
+        semaphores: may_differ(c, 1, s, frames::SEMAPHORES_AT),
+        events: speaks_of(s, frames::EVENTS_AT),
+        messages: speaks_of(s, frames::MESSAGES_AT),
+        flags: may_differ(c, 32, s, frames::FLAGS_AT),
+    }
 }
 
 // Whether the state, with the call run again, yields the end state and the note, as far as it is asked for.
-fn yields_again(
-    old: Kernel,
-    bytes: [u8; 16],
-    end: Kernel,
-    note: &[u8],
-    threads: bool,
-    messages: bool,
-) -> bool
-    ensures { λ r. ⌜ (levelsFit old ≡ true → r ≡ yieldsAsked threads messages old bytes end (now (note .entry))) ⌝ }
+fn yields_again(old: Kernel, bytes: [u8; 16], end: Kernel, note: &[u8], asked: Asked) -> bool
+    ensures { λ r. ⌜ (levelsFit old ≡ true → r ≡ yieldsAsked asked old bytes end (now (note .entry))) ⌝ }
 {
-    if !code_rules::keeps_asked(old, threads, messages) {
+    if !code_rules::keeps_asked(old, asked) {
         return false;
     }
     let mut again = [0u8; MOST];
@@ -66,7 +78,7 @@ fn yields_again(
         return false;
     }
     let kernel = l.kernel;
-    code_notes_same::same_asked(kernel, end, threads, messages)
+    code_notes_same::same_asked(kernel, end, asked)
 }
 
 // The note undone on a state that is known to keep its rules: the earlier state, with what was used of the log before the note, or 15.
@@ -86,9 +98,8 @@ pub fn undo_note(k: Kernel, note: &[u8], before: usize, used: usize) -> Logged
         return refused(15, k.runner, k, used);
     }
     let kernel = back.kernel;
-    let threads = threads_asked(c, s);
-    let messages = messages_asked(s);
-    if !yields_again(kernel, bytes, k, note, threads, messages) {
+    let asked = asked_by(c, s);
+    if !yields_again(kernel, bytes, k, note, asked) {
         return refused(15, k.runner, k, used);
     }
     Logged {

@@ -18,6 +18,7 @@ use spec_kernel::records::Message;
 use spec_kernel::records::Semaphore;
 use spec_kernel::records::Thread;
 use spec_kernel::sizes;
+use spec_rules::tests::Asked;
 
 fn same_threads(a: [Thread; sizes::THREADS], b: [Thread; sizes::THREADS]) -> bool
     ensures { λ r. ⌜ r ≡ sameAll sameThread a b ⌝ }
@@ -34,7 +35,7 @@ fn same_threads(a: [Thread; sizes::THREADS], b: [Thread; sizes::THREADS]) -> boo
     true
 }
 
-// Where they are asked for; so too messages and queues.
+// Where they are asked for; so too the other tables, and queues.
 fn threads_if(asked: bool, a: [Thread; sizes::THREADS], b: [Thread; sizes::THREADS]) -> bool
     ensures { λ r. ⌜ r ≡ ifAsked asked (sameAll sameThread a b) ⌝ }
 {
@@ -59,6 +60,19 @@ fn same_semaphores(a: [Semaphore; sizes::SEMAPHORES], b: [Semaphore; sizes::SEMA
     true
 }
 
+fn semaphores_if(
+    asked: bool,
+    a: [Semaphore; sizes::SEMAPHORES],
+    b: [Semaphore; sizes::SEMAPHORES],
+) -> bool
+    ensures { λ r. ⌜ r ≡ ifAsked asked (sameAll sameSemaphore a b) ⌝ }
+{
+    if !asked {
+        return true;
+    }
+    same_semaphores(a, b)
+}
+
 fn same_events(a: [Event; sizes::EVENTS], b: [Event; sizes::EVENTS]) -> bool
     ensures { λ r. ⌜ r ≡ sameAll sameEvent a b ⌝ }
 {
@@ -72,6 +86,15 @@ fn same_events(a: [Event; sizes::EVENTS], b: [Event; sizes::EVENTS]) -> bool
         i += 1;
     }
     true
+}
+
+fn events_if(asked: bool, a: [Event; sizes::EVENTS], b: [Event; sizes::EVENTS]) -> bool
+    ensures { λ r. ⌜ r ≡ ifAsked asked (sameAll sameEvent a b) ⌝ }
+{
+    if !asked {
+        return true;
+    }
+    same_events(a, b)
 }
 
 fn same_messages(a: [Message; sizes::MESSAGES], b: [Message; sizes::MESSAGES]) -> bool
@@ -154,8 +177,8 @@ fn same_numbers(a: Kernel, b: Kernel) -> bool
 }
 
 // The four kinds of records.
-fn same_records(a: Kernel, b: Kernel, threads: bool, messages: bool) -> bool
-    ensures { λ r. ⌜ r ≡ allOf (ofRecords threads messages a b) ⌝ }
+fn same_records(a: Kernel, b: Kernel, asked: Asked) -> bool
+    ensures { λ r. ⌜ r ≡ allOf (ofRecords asked a b) ⌝ }
 {
     let records = a.threads;
     let semaphores = a.semaphores;
@@ -165,32 +188,32 @@ fn same_records(a: Kernel, b: Kernel, threads: bool, messages: bool) -> bool
     let other_semaphores = b.semaphores;
     let other_events = b.events;
     let other_posts = b.messages;
-    if !threads_if(threads, records, other_threads) {
+    if !threads_if(asked.threads, records, other_threads) {
         return false;
     }
-    if !same_semaphores(semaphores, other_semaphores) {
+    if !semaphores_if(asked.semaphores, semaphores, other_semaphores) {
         return false;
     }
-    if !same_events(events, other_events) {
+    if !events_if(asked.events, events, other_events) {
         return false;
     }
-    messages_if(messages, posts, other_posts)
+    messages_if(asked.messages, posts, other_posts)
 }
 
-// Whether two states are the same, but for threads and their places, or messages and theirs, where these aren't asked for.
-pub fn same_asked(a: Kernel, b: Kernel, threads: bool, messages: bool) -> bool
-    ensures { λ r. ⌜ r ≡ sameAsked threads messages a b ⌝ }
+// Whether two states are the same, but for the tables that aren't asked for, and their places.
+pub fn same_asked(a: Kernel, b: Kernel, asked: Asked) -> bool
+    ensures { λ r. ⌜ r ≡ sameAsked asked a b ⌝ }
 {
-    if !same_records(a, b, threads, messages) {
+    if !same_records(a, b, asked) {
         return false;
     }
-    if !queue_if(threads, a.places, b.places) {
+    if !queue_if(asked.threads, a.places, b.places) {
         return false;
     }
-    if !queue_if(threads, a.time, b.time) {
+    if !queue_if(asked.threads, a.time, b.time) {
         return false;
     }
-    if !queue_if(messages, a.posted, b.posted) {
+    if !queue_if(asked.messages, a.posted, b.posted) {
         return false;
     }
     same_numbers(a, b)
@@ -200,5 +223,12 @@ pub fn same_asked(a: Kernel, b: Kernel, threads: bool, messages: bool) -> bool
 pub fn same_kernel(a: Kernel, b: Kernel) -> bool
     ensures { λ r. ⌜ (r ≡ sameKernel a b) × ((r ≡ true) ↔ (a ≡ b)) ⌝ }
 {
-    same_asked(a, b, true, true)
+    let all = Asked {
+        threads: true,
+        semaphores: true,
+        events: true,
+        messages: true,
+        flags: true,
+    };
+    same_asked(a, b, all)
 }

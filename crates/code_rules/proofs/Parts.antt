@@ -1,45 +1,33 @@
--- The parts of the test, from what the passes over the records tell.
-use Prim.Native.Nat.{ℕ, zero, suc, _+_, _*_, _≤_}
-use mathlib.Core.Path.{_≡_, refl, sym, _∙_}
-use mathlib.Core.Bool.{Bool, true, false, _&&_, _||_, or-true, and-true}
+-- The parts of the test, from what the passes over the records tell, and the groups that the code goes through.
+use Prim.Native.Nat.{ℕ}
+use mathlib.Core.Path.{_≡_, refl}
+use mathlib.Core.Bool.{Bool, true, false, _&&_, _||_, and-true, and-false}
 use mathlib.Core.List.{List, [], _∷_}
-use native.Mathlib.Omega.{arith}
-use lib.Dec.{eqb, ltb}
+use lib.Dec.{eqb}
 use lib.ListN.{length, getD}
-use borrow.Author.Tests.{lt-ltb, le-ltb}
-use borrow.Table.Steps.{cases}
-use Rattle.base_bits.specs.Words.{hasBit}
 use Rattle.base_bits.specs.Sets.{Tells}
 use Rattle.base_queue.specs.declared.Queue.{Queue}
-use Rattle.base_queue.specs.Lists.{firstOf}
 use Rattle.base_queue.specs.Queues.{items, isTidy}
 use Rattle.base_queue.specs.Tables.{isPlaced, isOrderedFrom}
 use Rattle.base_tables.specs.Taken.{isTable, Keys}
 use Rattle.base_tables.proofs.Takes.{told-members, taken-means}
-use Rattle.spec_kernel.specs.declared.records.Condition.{Condition}
-use Rattle.spec_kernel.specs.declared.records.Condition.the-variants.{Ready, Asleep, ForSemaphore, ForEvent, ForMessage, ForFlag}
 use Rattle.spec_kernel.specs.declared.records.Thread.{Thread}
 use Rattle.spec_kernel.specs.declared.records.Semaphore.{Semaphore}
 use Rattle.spec_kernel.specs.declared.records.Kernel.{Kernel}
-use Rattle.spec_kernel.specs.Records.{thread, noThread, noSemaphore, noMessage}
-use Rattle.spec_kernel.specs.Sizes.{threadCount, semaphoreCount, priorityCount}
-use Rattle.spec_kernel.specs.Conditions.{readyFor, isReady, ofSemaphores}
-use Rattle.spec_kernel.specs.Places.{home, homeFor, homeOf, hasHome, rankOf, isQueued, streamOf}
-use Rattle.spec_kernel.specs.Runner.{chosen}
+use Rattle.spec_kernel.specs.Records.{noThread, noSemaphore, noMessage}
+use Rattle.spec_kernel.specs.Sizes.{semaphoreCount}
+use Rattle.spec_kernel.specs.Places.{homeOf, hasHome, rankOf, isQueued, streamOf}
+use Rattle.spec_rules.specs.declared.tests.Asked.{Asked}
 use Rattle.spec_rules.specs.Tests.{allOf, isTicking, placesKept, timeKept, postedKept, inRank, inTime, inStream}
-use Rattle.spec_rules.specs.Tests.{threadsKept, semaphoresKept, messagesKept, runnerKept, ifAsked}
-use Rattle.spec_rules.proofs.OfRecords.{threads-exactly}
+use Rattle.spec_rules.specs.Tests.{threadsKept, semaphoresKept, messagesKept, runnerKept}
+use Rattle.spec_rules.specs.Tests.{ifAsked, conditionsAsked, ownersAsked, keepsAsked}
+use Rattle.spec_rules.proofs.Asked.{neither}
 use Rattle.code_rules_records.specs.Others.{Objects}
 use Rattle.code_rules.specs.declared.told.Semaphores.{Semaphores}
 use Rattle.code_rules.specs.declared.told.Threads.{Threads}
 use Rattle.code_rules.specs.declared.told.Messages.{Messages}
-use Rattle.code_rules.specs.Told.{OfSemaphores, OfEvents, OfThreads, OfMessages, runnerBy}
-
--- one test that fails
-pub fails : (n : ℕ) (tests : List Bool) → getD tests n true ≡ false → false ≡ allOf tests
-fails n [] e = sym e
-fails zero (b ∷ l) e = rw e
-fails (suc n) (b ∷ l) e = cases b (λ h. rw h (fails n l e)) (λ h. rw h)
+use Rattle.code_rules.specs.Told.{OfSemaphores, OfEvents, OfThreads, OfMessages}
+use Rattle.code_rules.specs.Groups.{threadTests, messageTests}
 
 -- a table of places is as the records say
 table-kept : {A : Type 0} (belongs : A → Bool) (key : A → ℕ) (records : List A) (d : A) → belongs d ≡ false → {n : ℕ} → length records ≡ n
@@ -49,19 +37,6 @@ table-kept : {A : Type 0} (belongs : A → Bool) (key : A → ℕ) (records : Li
 unfolding isTable
 table-kept belongs key records d out {n} full {set} {keys} told keyed q =
     rw (taken-means belongs key records d out n full set keys told keyed (items q), and-true)
-
--- a ready thread's home lies before the semaphores' queues
-ready-low : (c : Condition) (p : ℕ) → p ≤ priorityCount → ltb (homeFor c p) (home ofSemaphores 0) ≡ readyFor c
-ready-low Ready p h = lt-ltb p 256 (omega arith)
-ready-low Asleep p h = refl
-ready-low (ForSemaphore i) p h = le-ltb (1 * 256 + i) 256 (omega arith)
-ready-low (ForEvent i) p h = le-ltb (2 * 256 + i) 256 (omega arith)
-ready-low (ForMessage mask) p h = refl
-ready-low (ForFlag i) p h = le-ltb (3 * 256 + i) 256 (omega arith)
-
-home-low : (r : Thread) → (r .live ≡ true → r .priority ≤ priorityCount) → ltb (homeOf r) (home ofSemaphores 0) ≡ isReady r
-unfolding homeOf
-home-low r h = cases (r .live) (λ e. rw e (ready-low (r .condition) (r .priority) (h e))) (λ e. rw e)
 
 module _ (k : Kernel) where
   pub semaphores-part : {s : Semaphores} → OfSemaphores (k .semaphores) s → s .kept ≡ semaphoresKept k
@@ -91,19 +66,6 @@ module _ (k : Kernel) where
     unfolding timeKept inTime
     time-part = table-kept isTicking (λ (r : Thread). r .ticks) (k .threads) noThread refl (T .full) (T .ticking) (T .ticks) (k .time)
 
-    ready-there : (x : ℕ) → hasBit (t .ready) x ≡ isReady (thread k x)
-    ready-there = told-members isReady (k .threads) noThread refl threadCount (T .full) _ (T .ready)
-
-    -- in a state whose threads keep their rules, the first place is ready where it is chosen
-    pub runner-part : threadsKept k ≡ true
-        → runnerBy (k .unscheduled) (k .critical) (k .runner) (firstOf (items (k .places))) (t .ready) ≡ runnerKept k
-    unfolding runnerBy runnerKept chosen
-    runner-part kept =
-        let f = firstOf (items (k .places)) in
-        let low : ltb (homeOf (thread k f)) (home ofSemaphores 0) ≡ isReady (thread k f) =
-        home-low (thread k f) (λ e. threads-exactly k .0 kept f .living e .priority .1) in
-        rw (ready-there f, ready-there (k .runner), low)
-
   module _ {m : Messages} (M : OfMessages (k .messages) (k .threads) m) where
     pub messages-part : m .kept ≡ messagesKept k
     unfolding messagesKept
@@ -113,13 +75,32 @@ module _ (k : Kernel) where
     unfolding postedKept inStream
     posted-part = table-kept isQueued streamOf (k .messages) noMessage refl (M .full) (M .queued) (M .streams) (k .posted)
 
--- ---- tests that are made where they are asked for
-module _ (k : Kernel) (m : Messages) (asked : Bool) (M : asked ≡ true → OfMessages (k .messages) (k .threads) m) where
-  pub messages-asked : (asked ≡ false → m .kept ≡ true) → m .kept ≡ ifAsked asked (messagesKept k)
-  messages-asked N = cases asked (λ e. rw e (messages-part k (M e))) (λ e. rw e (N e))
+-- ---- the groups
+-- what isn't gone through isn't asked for
+pub no-conditions : (asked : Asked) (k : Kernel) → conditionsAsked asked ≡ false → true ≡ allOf (threadTests asked k)
+no-conditions asked k h =
+    let (others, _) = neither (asked .threads || asked .semaphores) (asked .events) h in
+    let (t, s) = neither (asked .threads) (asked .semaphores) others in
+    rw (h, t, s)
 
-  -- channels are asked for where messages are, and these with the threads or alone
-  pub posted-asked : (threads messages : Bool) → asked ≡ (threads || messages)
-      → ifAsked messages (isTable (m .queued) (m .streams) (k .posted)) ≡ ifAsked messages (postedKept k)
-  posted-asked threads true e = posted-part k (M (e ∙ or-true threads))
-  posted-asked threads false e = refl
+pub no-owners : (asked : Asked) (k : Kernel) → ownersAsked asked ≡ false → true ≡ allOf (messageTests asked k)
+no-owners asked k h = rw (h, neither (asked .threads) (asked .messages) h .1)
+
+regroup : (places time posted threads semaphores messages runner : Bool)
+    → allOf (places ∷ time ∷ posted ∷ threads ∷ semaphores ∷ messages ∷ runner ∷ [])
+    ≡ (allOf (semaphores ∷ threads ∷ places ∷ time ∷ []) && (allOf (messages ∷ posted ∷ []) && runner))
+regroup false time posted threads semaphores messages runner = rw (and-false threads, and-false semaphores)
+regroup true false posted threads semaphores messages runner = rw (and-false threads, and-false semaphores)
+regroup true true false threads semaphores messages runner =
+    rw (and-false messages, and-false (allOf (semaphores ∷ threads ∷ true ∷ true ∷ [])))
+regroup true true true false semaphores messages runner = rw (and-false semaphores)
+regroup true true true true false messages runner = refl
+regroup true true true true true messages runner = rw (and-true runner, and-true messages)
+
+pub groups : (asked : Asked) (k : Kernel)
+    → keepsAsked asked k ≡ (allOf (threadTests asked k) && (allOf (messageTests asked k) && runnerKept k))
+unfolding keepsAsked
+groups asked k =
+    regroup (ifAsked (asked .threads) (placesKept k)) (ifAsked (asked .threads) (timeKept k)) (ifAsked (asked .messages) (postedKept k))
+    (ifAsked (conditionsAsked asked) (threadsKept k)) (ifAsked (asked .semaphores) (semaphoresKept k))
+    (ifAsked (ownersAsked asked) (messagesKept k)) (runnerKept k)

@@ -1,12 +1,10 @@
--- What a pass over the records tells: whether each keeps its rules, and the sets and keys that the tables of places and the runner are
--- tested by. Assumes nothing.
-use Prim.Native.Nat.{ℕ, _+_}
+-- What a pass over the records tells: whether each keeps its rules, and the sets and keys that the tables of places are tested by. Assumes
+-- nothing.
+use Prim.Native.Nat.{ℕ}
 use mathlib.Core.Path.{_≡_}
-use mathlib.Core.Bool.{Bool, not, cond}
+use mathlib.Core.Bool.{not}
 use mathlib.Core.List.{List}
-use lib.Dec.{eqb}
 use lib.ListN.{length, getD}
-use Rattle.base_bits.specs.Words.{hasBit}
 use Rattle.base_bits.specs.Sets.{Tells}
 use Rattle.base_queue.specs.Lists.{everyFrom}
 use Rattle.base_tables.specs.Taken.{Keys}
@@ -16,7 +14,6 @@ use Rattle.spec_kernel.specs.declared.records.Event.{Event}
 use Rattle.spec_kernel.specs.declared.records.Message.{Message}
 use Rattle.spec_kernel.specs.Records.{noThread, noEvent, noMessage}
 use Rattle.spec_kernel.specs.Sizes.{threadCount, semaphoreCount, eventCount, messageCount}
-use Rattle.spec_kernel.specs.Conditions.{isReady}
 use Rattle.spec_kernel.specs.Places.{hasHome, rankOf, isQueued, streamOf}
 use Rattle.spec_kernel.specs.Truth.{isTrue}
 use Rattle.spec_rules.specs.Tests.{semaphoreWaited, isTicking, threadKept, semaphoreKept, messageKept}
@@ -39,7 +36,6 @@ pub record OfThreads (threads : List Thread) (waited untrue flags : ℕ) (r : Th
       (λ semaphores events bits. everyFrom (λ _ t. threadKept semaphores events bits flags t) 0 threads)
   pub homes : Tells (r .homes) threadCount (λ t. hasHome (getD threads t noThread))
   pub ticking : Tells (r .ticking) threadCount (λ t. isTicking (getD threads t noThread))
-  pub ready : Tells (r .ready) threadCount (λ t. isReady (getD threads t noThread))
   pub ranks : Keys (r .ranks) threadCount (λ t. rankOf (getD threads t noThread))
   pub ticks : Keys (r .ticks) threadCount (λ t. getD threads t noThread .ticks)
 
@@ -48,8 +44,3 @@ pub record OfMessages (messages : List Message) (threads : List Thread) (r : Mes
   pub kept : r .kept ≡ everyFrom (λ _ m. messageKept threads m) 0 messages
   pub queued : Tells (r .queued) messageCount (λ m. isQueued (getD messages m noMessage))
   pub streams : Keys (r .streams) messageCount (λ m. streamOf (getD messages m noMessage))
-
--- who runs, by the first place and the set of those who are ready
-unfoldable pub runnerBy : ℕ → ℕ → ℕ → ℕ → ℕ → Bool
-runnerBy unscheduled critical runner first ready =
-    cond (eqb (unscheduled + critical) 0) (eqb runner (cond (hasBit ready first) first 255)) (hasBit ready runner)

@@ -1,10 +1,9 @@
-// One pass over each table of records: whether each keeps its rules, and what the tables of places and the runner are tested by.
+// One pass over each table of records: whether each keeps its rules, and what the tables of places are tested by.
 ghost use mathlib.Core.Path.{_≡_};
-ghost use mathlib.Core.Bool.{true, false, _&&_};
+ghost use mathlib.Core.Bool.{_&&_};
 ghost use Rattle.code_rules.specs.Told.{OfSemaphores, OfEvents, OfThreads, OfMessages};
 use base_bits::sets;
 use base_queue::CAPACITY;
-use code_kernel::conditions;
 use code_kernel::places;
 use spec_kernel::records::Event;
 use spec_kernel::records::Message;
@@ -18,12 +17,11 @@ pub struct Semaphores {
     pub waited: u64,
 }
 
-// Sets of those who have a home, have ticks left, are ready; rank and ticks left of each.
+// Sets of those who have a home and of those who have ticks left; rank and ticks left of each.
 pub struct Threads {
     pub kept: bool,
     pub homes: u64,
     pub ticking: u64,
-    pub ready: u64,
     pub ranks: [u32; CAPACITY],
     pub ticks: [u32; CAPACITY],
 }
@@ -72,15 +70,13 @@ pub fn of_events(events: [Event; sizes::EVENTS], bits: u32) -> u64
     untrue
 }
 
-// Who belongs in the table of places and in the time queue, and who may run. `waited` and `untrue` are what the objects told, and `flags`
-// has the live ones.
+// Who belongs in the table of places and in the time queue. `waited` and `untrue` are what the objects told, and `flags` has the live ones.
 pub fn of_threads(threads: [Thread; sizes::THREADS], waited: u64, untrue: u64, flags: u16) -> Threads
     ensures { λ r. ⌜ OfThreads threads waited untrue flags r ⌝ }
 {
     let mut kept = true;
     let mut homes: u64 = 0;
     let mut ticking: u64 = 0;
-    let mut ready: u64 = 0;
     let mut ranks = [0u32; CAPACITY];
     let mut ticks = [0u32; CAPACITY];
     let mut t: usize = 0;
@@ -89,7 +85,6 @@ pub fn of_threads(threads: [Thread; sizes::THREADS], waited: u64, untrue: u64, f
         kept = both(kept, code_rules_records::thread_kept(waited, untrue, flags, r));
         homes = sets::joined(homes, t, places::has_home(r));
         ticking = sets::joined(ticking, t, 0 < r.ticks);
-        ready = sets::joined(ready, t, conditions::is_ready(r));
         ranks[t] = places::rank_of(r);
         ticks[t] = r.ticks;
         t += 1;
@@ -98,14 +93,16 @@ pub fn of_threads(threads: [Thread; sizes::THREADS], waited: u64, untrue: u64, f
         kept,
         homes,
         ticking,
-        ready,
         ranks,
         ticks,
     }
 }
 
 // Which messages belong in the channels.
-fn of_messages(messages: [Message; sizes::MESSAGES], threads: [Thread; sizes::THREADS]) -> Messages
+pub fn of_messages(
+    messages: [Message; sizes::MESSAGES],
+    threads: [Thread; sizes::THREADS],
+) -> Messages
     ensures { λ r. ⌜ OfMessages messages threads r ⌝ }
 {
     let mut kept = true;
@@ -126,22 +123,4 @@ fn of_messages(messages: [Message; sizes::MESSAGES], threads: [Thread; sizes::TH
         queued,
         streams,
     }
-}
-
-// The same where they are asked for; else nothing is told, and nothing fails.
-pub fn messages_if(
-    asked: bool,
-    messages: [Message; sizes::MESSAGES],
-    threads: [Thread; sizes::THREADS],
-) -> Messages
-    ensures { λ r. ⌜ (asked ≡ true → OfMessages messages threads r) × (asked ≡ false → r .kept ≡ true) ⌝ }
-{
-    if !asked {
-        return Messages {
-            kept: true,
-            queued: 0,
-            streams: [0u32; CAPACITY],
-        };
-    }
-    of_messages(messages, threads)
 }

@@ -8,13 +8,15 @@ use lib.ListN.{getD}
 use borrow.Author.Tests.{eqb-true}
 use Rattle.base_queue.specs.declared.Queue.{Queue}
 use Rattle.base_queue.proofs.Counts.{same}
+use Rattle.spec_kernel.specs.declared.records.Semaphore.{Semaphore}
+use Rattle.spec_kernel.specs.declared.records.Event.{Event}
 use Rattle.spec_kernel.specs.declared.records.Kernel.{Kernel}
 use Rattle.spec_notes.specs.Rows.{eventRow, messageRow}
 use Rattle.spec_notes.specs.Touched.{sameRow, sameThread, sameSemaphore, sameEvent, sameMessage}
 use Rattle.spec_moves.specs.declared.parts.Threads.{Threads}
 use Rattle.spec_moves.specs.declared.parts.Posts.{Posts}
-use Rattle.spec_moves.specs.Standing.{threadsOf, postsOf}
-use Rattle.spec_rules.proofs.Asked.{still}
+use Rattle.spec_rules.specs.declared.tests.Asked.{Asked}
+use Rattle.spec_rules.proofs.Asked.{still, Unasked}
 use Rattle.spec_notes.specs.Same.{sameAll, sameQueue, numbersOf, sameNumbers, sameKernel, sameAsked}
 use Rattle.spec_notes.proofs.RecordsBack.{same-row, same-thread, same-semaphore, same-event, same-message}
 use Rattle.spec_notes.proofs.Slight.{row-same}
@@ -98,18 +100,24 @@ pub same-exactly : (k u : Kernel) → (sameKernel k u ≡ true) ↔ (k ≡ u)
 same-exactly k u = (same-kernel k u, λ e. rw e (kernel-same u))
 
 -- where what isn't asked for is the same
-module _ (k u : Kernel) {threads messages : Bool} (T : threads ≡ false → threadsOf k ≡ threadsOf u)
-    (M : messages ≡ false → postsOf k ≡ postsOf u) where
-  pub same-asked : sameAsked threads messages k u ≡ sameKernel k u
-  unfolding sameAsked sameKernel
-  same-asked =
-      let (records, (_, (_, (posts, (places, (time, (posted, _))))))) = simp (and-true, and-eq-true-iff) at (kernel-same u) in
-      rw (
-        still threads (sameAll sameThread (k .threads) (u .threads)) _ records
-            (λ h. ap (λ (p : Threads). sameAll sameThread (p .records) (u .threads)) (T h)),
-        still messages (sameAll sameMessage (k .messages) (u .messages)) _ posts
-            (λ h. ap (λ (p : Posts). sameAll sameMessage (p .records) (u .messages)) (M h)),
-        still threads (sameQueue (k .places) (u .places)) _ places (λ h. ap (λ (p : Threads). sameQueue (p .places) (u .places)) (T h)),
-        still threads (sameQueue (k .time) (u .time)) _ time (λ h. ap (λ (p : Threads). sameQueue (p .time) (u .time)) (T h)),
-        still messages (sameQueue (k .posted) (u .posted)) _ posted (λ h. ap (λ (p : Posts). sameQueue (p .posted) (u .posted)) (M h)),
-      )
+pub same-asked : (k u : Kernel) {asked : Asked} → Unasked asked k u → sameAsked asked k u ≡ sameKernel k u
+unfolding sameAsked sameKernel
+same-asked k u {asked} U =
+    let (records, (semaphores, (events, (posts, (places, (time, (posted, _))))))) = simp (and-true, and-eq-true-iff) at (kernel-same u) in
+    let threads = asked .threads in
+    let messages = asked .messages in
+    rw (
+      still threads (sameAll sameThread (k .threads) (u .threads)) _ records
+          (λ h. ap (λ (p : Threads). sameAll sameThread (p .records) (u .threads)) (U .threads h)),
+      still (asked .semaphores) (sameAll sameSemaphore (k .semaphores) (u .semaphores)) _ semaphores
+          (λ h. ap (λ (l : List Semaphore). sameAll sameSemaphore l (u .semaphores)) (U .semaphores h)),
+      still (asked .events) (sameAll sameEvent (k .events) (u .events)) _ events
+          (λ h. ap (λ (l : List Event). sameAll sameEvent l (u .events)) (U .events h .0)),
+      still messages (sameAll sameMessage (k .messages) (u .messages)) _ posts
+          (λ h. ap (λ (p : Posts). sameAll sameMessage (p .records) (u .messages)) (U .messages h)),
+      still threads (sameQueue (k .places) (u .places)) _ places
+          (λ h. ap (λ (p : Threads). sameQueue (p .places) (u .places)) (U .threads h)),
+      still threads (sameQueue (k .time) (u .time)) _ time (λ h. ap (λ (p : Threads). sameQueue (p .time) (u .time)) (U .threads h)),
+      still messages (sameQueue (k .posted) (u .posted)) _ posted
+          (λ h. ap (λ (p : Posts). sameQueue (p .posted) (u .posted)) (U .messages h)),
+    )

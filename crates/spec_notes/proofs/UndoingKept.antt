@@ -13,7 +13,8 @@ use Rattle.spec_kernel.specs.declared.records.Kernel.{Kernel}
 use Rattle.spec_rules.specs.Rules.{Sized, Rules}
 use Rattle.spec_rules.specs.Tests.{keepsRules, keepsAsked}
 use Rattle.spec_rules.proofs.Exactly.{rules-mean, rules-hold}
-use Rattle.spec_rules.proofs.Asked.{asked-means}
+use Rattle.spec_rules.specs.declared.tests.Asked.{Asked}
+use Rattle.spec_rules.proofs.Asked.{Unasked, by-third, asked-means}
 use Rattle.spec_moves.specs.Standing.{threadsOf, postsOf}
 use Rattle.spec_moves.specs.States.{scheduled}
 use Rattle.spec_calls.specs.declared.call.Call.{Call}
@@ -22,27 +23,27 @@ use Rattle.spec_refusals.specs.Refusals.{is, numberOf}
 use Rattle.proof_rules.proofs.Ends.{before}
 use Rattle.spec_effects.specs.Effects.{effect}
 use Rattle.spec_notes.specs.Touched.{sameRow}
-use Rattle.spec_notes.specs.Notes.{threadsIn, messagesIn, noteOf}
+use Rattle.spec_notes.specs.Notes.{threadsIn, semaphoresIn, eventsIn, flagsIn, messagesIn, noteOf}
 use Rattle.spec_notes.specs.Frames.{framesOf, sectionsIn}
 use Rattle.spec_notes.specs.Same.{sameKernel, sameAsked}
 use Rattle.spec_notes.specs.Undo.{hasLast, lastNote, Yields}
 use Rattle.spec_notes.specs.Undoes.{callBytes, backFrom, isDecoded, levelsFit, yieldsAgain, undoesNote, undoes}
-use Rattle.spec_notes.specs.Undoes.{threadsAsked, messagesAsked, yieldsAsked, undoesNoteKept, undoesKept}
+use Rattle.spec_notes.specs.Undoes.{askedBy, yieldsAsked, undoesNoteKept, undoesKept}
 use Rattle.spec_notes.specs.Within.{Within, AreBytes}
 use Rattle.spec_notes.proofs.RecordsBack.{same-row}
 use Rattle.spec_notes.proofs.SameStates.{same-asked}
-use Rattle.spec_notes.proofs.Unnoted.{threads-unnoted, posts-unnoted}
+use Rattle.spec_notes.proofs.Unnoted.{threads-unnoted, semaphores-unnoted, events-unnoted, posts-unnoted, flags-unnoted}
 use Rattle.spec_notes.proofs.Limits.{limits-within}
 use Rattle.spec_notes.proofs.Yields.{yields-kept, yields-back}
 use Rattle.spec_notes.proofs.Undoing.{found-sized, found-limits, record-size, record-bytes, last-bytes, last-sizes}
 
--- who isn't asked for has no section, and no time passes
+-- who isn't asked for has no section, and the call is of no kind that needs none
 none-there : (l : List ℕ) → not (isEmpty l) ≡ false → l ≡ []
 none-there [] h = refl
 none-there (x ∷ l) h = absurd (false≢true (sym h))
 
-no-time : (c : Call) (l : List ℕ) → (is c 1 || not (isEmpty l)) ≡ false → (is c 1 ≡ false) × (l ≡ [])
-no-time c l h = cases (is c 1) (λ e. absurd (false≢true (sym (rw e at h)))) (λ e. (e, none-there l (rw e at h)))
+no-kind : (c : Call) (n : ℕ) (l : List ℕ) → (is c n || not (isEmpty l)) ≡ false → (is c n ≡ false) × (l ≡ [])
+no-kind c n l h = cases (is c n) (λ e. absurd (false≢true (sym (rw e at h)))) (λ e. (e, none-there l (rw e at h)))
 
 module _ (k′ : Kernel) (note : List ℕ) (Z : Sized k′) (R : Rules k′) (W : Within k′) (B : AreBytes note) (long : 16 ≤ length note) where
   abbrev bytes : List ℕ
@@ -60,24 +61,28 @@ module _ (k′ : Kernel) (note : List ℕ) (Z : Sized k′) (R : Rules k′) (W 
   abbrev next : Kernel
   next = scheduled (effect k c)
 
-  abbrev threads : Bool
-  threads = threadsAsked c x
-
-  abbrev messages : Bool
-  messages = messagesAsked x
+  abbrev asked : Asked
+  asked = askedBy c x
 
   -- of an end state that the note leads back from to k, what isn't asked for is as in k
-  threads-from : (u : Kernel) → Sized u → Rules u → backFrom u note ≡ k → threads ≡ false → threadsOf k ≡ threadsOf u
+  unasked : (u : Kernel) → Sized u → Rules u → backFrom u note ≡ k → Unasked asked k u
   unfolding backFrom
-  threads-from u Z R e h =
-      let (o, none) = no-time c (threadsIn x) h in ap threadsOf (sym e) ∙ threads-unnoted c u x Z R o none
+  unasked u Z R e =
+      record {
+        threads = λ h. let (o, none) = no-kind c 1 (threadsIn x) h in ap threadsOf (sym e) ∙ threads-unnoted c u x Z R o none;
+        semaphores =
+            λ h. let (o, none) = no-kind c 1 (semaphoresIn x) h in
+            ap (λ (v : Kernel). v .semaphores) (sym e) ∙ semaphores-unnoted c u x o none;
+        events =
+            λ h. let (records, bits) = events-unnoted c u x (none-there (eventsIn x) h) in
+            (ap (λ (v : Kernel). v .events) (sym e) ∙ records, ap (λ (v : Kernel). v .bits) (sym e) ∙ bits);
+        messages = λ h. ap postsOf (sym e) ∙ posts-unnoted c u x Z R (none-there (messagesIn x) h);
+        flags =
+            λ h. let (o, none) = no-kind c 32 (flagsIn x) h in ap (λ (v : Kernel). v .flags) (sym e) ∙ flags-unnoted c u x o none;
+      }
 
-  posts-from : (u : Kernel) → Sized u → Rules u → backFrom u note ≡ k → messages ≡ false → postsOf k ≡ postsOf u
-  unfolding backFrom
-  posts-from u Z R e h = ap postsOf (sym e) ∙ posts-unnoted c u x Z R (none-there (messagesIn x) h)
-
-  asked-rules : keepsAsked threads messages k ≡ keepsRules k
-  asked-rules = asked-means k′ k (rules-hold k′ Z R) (threads-from k′ Z R refl) (posts-from k′ Z R refl)
+  asked-rules : keepsAsked asked k ≡ keepsRules k
+  asked-rules = asked-means k′ k (rules-hold k′ Z R) (unasked k′ Z R refl)
 
   -- the call run again yields its own note, and leads back by it
   module _ (l : levelsFit k ≡ true) (r : keepsRules k ≡ true) (n : numberOf k c ≡ 0) (e : sameRow (noteOf k bytes next) note ≡ true) where
@@ -96,13 +101,12 @@ module _ (k′ : Kernel) (note : List ℕ) (Z : Sized k′) (R : Rules k′) (W 
           noted = same-row (noteOf k bytes next) note e;
         }
 
-    asked-same : sameAsked threads messages next k′ ≡ sameKernel next k′
+    asked-same : sameAsked asked next k′ ≡ sameKernel next k′
     unfolding backFrom
     asked-same =
         let (Zₙ, Rₙ, _, _) = yields-kept again in
         let b : backFrom next note ≡ k = yields-back again in
-        same-asked next k′ (λ h. sym (threads-from next Zₙ Rₙ b h) ∙ threads-from k′ Z R refl h)
-        (λ h. sym (posts-from next Zₙ Rₙ b h) ∙ posts-from k′ Z R refl h)
+        same-asked next k′ (by-third (unasked next Zₙ Rₙ b) (unasked k′ Z R refl))
 
   pub note-kept : undoesNoteKept k′ note ≡ undoesNote k′ note
   unfolding undoesNoteKept undoesNote yieldsAsked yieldsAgain

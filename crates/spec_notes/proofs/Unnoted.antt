@@ -10,6 +10,8 @@ use lib.ListN.{length, getD, replicate, length-take}
 use Rattle.base_queue.specs.declared.Queue.{Queue}
 use Rattle.base_queue.specs.Queues.{capacity, items, pack, Tidy}
 use Rattle.base_queue.proofs.Counts.{keep-all}
+use Rattle.spec_kernel.specs.declared.records.Semaphore.{Semaphore}
+use Rattle.spec_kernel.specs.declared.records.Event.{Event}
 use Rattle.spec_kernel.specs.declared.records.Kernel.{Kernel}
 use Rattle.spec_rules.specs.Rules.{Sized, Rules, UnusedStore}
 use Rattle.spec_moves.specs.declared.parts.Threads.{Threads}
@@ -18,12 +20,13 @@ use Rattle.spec_moves.specs.Standing.{threadsOf, postsOf}
 use Rattle.spec_moves.specs.States.{scheduled}
 use Rattle.spec_calls.specs.declared.call.Call.{Call}
 use Rattle.spec_refusals.specs.Refusals.{is}
-use Rattle.spec_notes.specs.Touched.{youngerThread}
-use Rattle.spec_notes.specs.Notes.{threadsIn, messagesIn}
+use Rattle.spec_notes.specs.Touched.{youngerThread, youngerSemaphore}
+use Rattle.spec_notes.specs.Notes.{threadsIn, semaphoresIn, eventsIn, flagsIn, messagesIn}
+use Rattle.spec_notes.specs.Predicted.{predictedFlags}
 use Rattle.base_rows.specs.Entries.{readEntries}
-use Rattle.spec_notes.specs.Back.{merge, putBackAll, threadsBefore, messagesBefore, threadsBack, postsBack}
-use Rattle.spec_notes.specs.Back.{beforeAt, stateBefore}
-use Rattle.spec_notes.proofs.Lengths.{younger-now}
+use Rattle.spec_notes.specs.Back.{merge, putBackAll, threadsBefore, semaphoresBefore, eventsBefore, bitsBefore, messagesBefore}
+use Rattle.spec_notes.specs.Back.{flagsBefore, threadsBack, postsBack, beforeAt, stateBefore}
+use Rattle.spec_notes.proofs.Lengths.{younger-now, semaphore-now}
 
 -- ---- a table of places
 none-marked : (n x : ℕ) → getD {A = ℕ} (replicate n 0) x 0 ≡ 0
@@ -66,6 +69,33 @@ unfolding postsBack messagesBefore readEntries
 posts-stay c runner p s tidy =
     let posted = unmoved (p .posted) s tidy in
     λ i. record { records = p .records; posted = posted i }
+
+-- ---- the parts that stay where they are
+semaphores-stay : (c : Call) (records : List Semaphore) → is c 1 ≡ false → semaphoresBefore c records [] ≡ records
+unfolding semaphoresBefore readEntries
+semaphores-stay c records o = map-same (youngerSemaphore c) (λ r. semaphore-now c r o) records
+
+events-stay : (c : Call) (records : List Event) (bits : ℕ) → (eventsBefore records [] ≡ records) × (bitsBefore c bits [] ≡ bits)
+unfolding eventsBefore bitsBefore readEntries
+events-stay c records bits = (refl, refl)
+
+flags-stay : (c : Call) (flags : ℕ) → is c 32 ≡ false → flagsBefore c flags [] ≡ flags
+unfolding flagsBefore predictedFlags
+flags-stay c flags o = rw o
+
+-- ---- of any state
+module _ (c : Call) (k′ : Kernel) (x : List (List ℕ)) where
+  pub semaphores-unnoted : is c 1 ≡ false → semaphoresIn x ≡ [] → stateBefore c k′ x .semaphores ≡ k′ .semaphores
+  unfolding stateBefore beforeAt scheduled
+  semaphores-unnoted o e = rw e (semaphores-stay c (k′ .semaphores) o)
+
+  pub events-unnoted : eventsIn x ≡ [] → (stateBefore c k′ x .events ≡ k′ .events) × (stateBefore c k′ x .bits ≡ k′ .bits)
+  unfolding stateBefore beforeAt scheduled
+  events-unnoted e = rw e (events-stay c (k′ .events) (k′ .bits))
+
+  pub flags-unnoted : is c 32 ≡ false → flagsIn x ≡ [] → stateBefore c k′ x .flags ≡ k′ .flags
+  unfolding stateBefore beforeAt scheduled
+  flags-unnoted o e = rw e (flags-stay c (k′ .flags) o)
 
 -- ---- of a state that keeps its rules
 module _ (c : Call) (k′ : Kernel) (x : List (List ℕ)) (Z : Sized k′) (R : Rules k′) where

@@ -5,6 +5,7 @@ use mathlib.Core.List.{List, [], _∷_}
 use lib.Dec.{eqb}
 use Rattle.base_queue.specs.declared.Queue.{Queue}
 use Rattle.spec_kernel.specs.declared.records.Kernel.{Kernel}
+use Rattle.spec_rules.specs.declared.tests.Asked.{Asked}
 use Rattle.spec_rules.specs.Tests.{allOf, ifAsked}
 use Rattle.spec_notes.specs.Touched.{sameRow, sameThread, sameSemaphore, sameEvent, sameMessage}
 
@@ -38,16 +39,16 @@ sameKernel k u =
     ∷ sameNumbers k u
     ∷ [])
 
--- ---- The same where it is asked for: threads and their places, or messages and theirs, may be known to be the same.
-unfoldable pub sameAsked : Bool → Bool → Kernel → Kernel → Bool
-sameAsked threads messages k u =
+-- ---- The same where it is asked for: a table that isn't, with its places, is known to be the same.
+unfoldable pub sameAsked : Asked → Kernel → Kernel → Bool
+sameAsked asked k u =
     allOf
-    (ifAsked threads (sameAll sameThread (k .threads) (u .threads))
-    ∷ sameAll sameSemaphore (k .semaphores) (u .semaphores)
-    ∷ sameAll sameEvent (k .events) (u .events)
-    ∷ ifAsked messages (sameAll sameMessage (k .messages) (u .messages))
-    ∷ ifAsked threads (sameQueue (k .places) (u .places))
-    ∷ ifAsked threads (sameQueue (k .time) (u .time))
-    ∷ ifAsked messages (sameQueue (k .posted) (u .posted))
+    (ifAsked (asked .threads) (sameAll sameThread (k .threads) (u .threads))
+    ∷ ifAsked (asked .semaphores) (sameAll sameSemaphore (k .semaphores) (u .semaphores))
+    ∷ ifAsked (asked .events) (sameAll sameEvent (k .events) (u .events))
+    ∷ ifAsked (asked .messages) (sameAll sameMessage (k .messages) (u .messages))
+    ∷ ifAsked (asked .threads) (sameQueue (k .places) (u .places))
+    ∷ ifAsked (asked .threads) (sameQueue (k .time) (u .time))
+    ∷ ifAsked (asked .messages) (sameQueue (k .posted) (u .posted))
     ∷ sameNumbers k u
     ∷ [])

@@ -6,6 +6,7 @@ use lib.Dec.{eqb, ltb}
 use lib.ListN.{take}
 use Rattle.base_queue.specs.Lists.{isEmpty}
 use Rattle.spec_kernel.specs.declared.records.Kernel.{Kernel}
+use Rattle.spec_rules.specs.declared.tests.Asked.{Asked}
 use Rattle.spec_rules.specs.Tests.{allOf, keepsRules, keepsAsked}
 use Rattle.spec_calls.specs.declared.call.Call.{Call}
 use Rattle.spec_calls.specs.Calls.{callOf}
@@ -13,7 +14,7 @@ use Rattle.spec_refusals.specs.Refusals.{is, numberOf}
 use Rattle.spec_moves.specs.States.{scheduled}
 use Rattle.spec_effects.specs.Effects.{effect}
 use Rattle.spec_notes.specs.Touched.{sameRow}
-use Rattle.spec_notes.specs.Notes.{threadsIn, messagesIn, noteOf}
+use Rattle.spec_notes.specs.Notes.{threadsIn, semaphoresIn, eventsIn, flagsIn, messagesIn, noteOf}
 use Rattle.spec_notes.specs.Back.{stateBefore}
 use Rattle.spec_notes.specs.Frames.{Decoded, nothing, sections, framesOf, sectionsIn}
 use Rattle.spec_notes.specs.Undo.{hasLast, lastNote}
@@ -55,29 +56,47 @@ unfoldable pub undoes : Kernel → List ℕ → ℕ → Bool
 undoes k′ log used = hasLast log used && undoesNote k′ (lastNote log used)
 
 -- ---- The same on an end state that keeps its rules: what the note doesn't speak of isn't looked at.
--- threads may be others where they have a section, and where time passes; messages where they have one
+-- a table may be another one where it has a section; and where time passes, which ages threads and semaphores, or a flag is destroyed
 abbrev pub threadsAsked : Call → List (List ℕ) → Bool
 threadsAsked c x = is c 1 || not (isEmpty (threadsIn x))
+
+abbrev pub semaphoresAsked : Call → List (List ℕ) → Bool
+semaphoresAsked c x = is c 1 || not (isEmpty (semaphoresIn x))
+
+abbrev pub eventsAsked : List (List ℕ) → Bool
+eventsAsked x = not (isEmpty (eventsIn x))
 
 abbrev pub messagesAsked : List (List ℕ) → Bool
 messagesAsked x = not (isEmpty (messagesIn x))
 
-unfoldable pub yieldsAsked : Bool → Bool → Kernel → List ℕ → Kernel → List ℕ → Bool
-yieldsAsked threads messages k bytes k′ note =
+abbrev pub flagsAsked : Call → List (List ℕ) → Bool
+flagsAsked c x = is c 32 || not (isEmpty (flagsIn x))
+
+abbrev pub askedBy : Call → List (List ℕ) → Asked
+askedBy c x =
+    record {
+      threads = threadsAsked c x;
+      semaphores = semaphoresAsked c x;
+      events = eventsAsked x;
+      messages = messagesAsked x;
+      flags = flagsAsked c x;
+    }
+
+unfoldable pub yieldsAsked : Asked → Kernel → List ℕ → Kernel → List ℕ → Bool
+yieldsAsked asked k bytes k′ note =
     let next = scheduled (effect k (callOf bytes)) in
     allOf
     (levelsFit k
-    ∷ keepsAsked threads messages k
+    ∷ keepsAsked asked k
     ∷ eqb (numberOf k (callOf bytes)) 0
     ∷ sameRow (noteOf k bytes next) note
-    ∷ sameAsked threads messages next k′
+    ∷ sameAsked asked next k′
     ∷ [])
 
 unfoldable pub undoesNoteKept : Kernel → List ℕ → Bool
 undoesNoteKept k′ note =
-    let x = sectionsIn (framesOf note) in
     isDecoded (framesOf note)
-    && yieldsAsked (threadsAsked (callOf (callBytes note)) x) (messagesAsked x) (backFrom k′ note) (callBytes note) k′ note
+    && yieldsAsked (askedBy (callOf (callBytes note)) (sectionsIn (framesOf note))) (backFrom k′ note) (callBytes note) k′ note
 
 unfoldable pub undoesKept : Kernel → List ℕ → ℕ → Bool
 undoesKept k′ log used = hasLast log used && undoesNoteKept k′ (lastNote log used)

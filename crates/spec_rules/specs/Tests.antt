@@ -21,6 +21,7 @@ use Rattle.spec_kernel.specs.Conditions.{readyFor, isReady, awaits}
 use Rattle.spec_kernel.specs.Places.{hasHome, rankOf, isQueued, streamOf}
 use Rattle.spec_kernel.specs.Truth.{isTrue}
 use Rattle.spec_kernel.specs.Runner.{chosen}
+use Rattle.spec_rules.specs.declared.tests.Asked.{Asked}
 
 -- all of a list
 abbrev pub allOf : List Bool → Bool
@@ -168,15 +169,21 @@ keepsRules k =
 abbrev pub ifAsked : Bool → Bool → Bool
 ifAsked asked test = cond asked test true
 
--- `threads`: some thread, or its place, may be another one; `messages`: some message, or its place
-unfoldable pub keepsAsked : Bool → Bool → Kernel → Bool
-keepsAsked threads messages k =
+-- a thread's condition looks at the semaphore, event or flag that it waits for, and a message at its owner
+abbrev pub conditionsAsked : Asked → Bool
+conditionsAsked asked = asked .threads || asked .semaphores || asked .events || asked .flags
+
+abbrev pub ownersAsked : Asked → Bool
+ownersAsked asked = asked .threads || asked .messages
+
+unfoldable pub keepsAsked : Asked → Kernel → Bool
+keepsAsked asked k =
     allOf
-    (ifAsked threads (placesKept k)
-    ∷ ifAsked threads (timeKept k)
-    ∷ ifAsked messages (postedKept k)
-    ∷ threadsKept k
-    ∷ semaphoresKept k
-    ∷ ifAsked (threads || messages) (messagesKept k)
+    (ifAsked (asked .threads) (placesKept k)
+    ∷ ifAsked (asked .threads) (timeKept k)
+    ∷ ifAsked (asked .messages) (postedKept k)
+    ∷ ifAsked (conditionsAsked asked) (threadsKept k)
+    ∷ ifAsked (asked .semaphores) (semaphoresKept k)
+    ∷ ifAsked (ownersAsked asked) (messagesKept k)
     ∷ runnerKept k
     ∷ [])

@@ -10,7 +10,7 @@ use Rattle.spec_calls.specs.Calls.{callOf}
 use Rattle.spec_notes.specs.Notes.{sectionCount}
 use Rattle.spec_notes.specs.Back.{stateBefore}
 use Rattle.spec_notes.specs.Frames.{nothing, sections, sectionsAt, framesOf}
-use Rattle.spec_notes.specs.Undoes.{callBytes, levelsFit, threadsAsked, messagesAsked}
+use Rattle.spec_notes.specs.Undoes.{callBytes, levelsFit, askedBy}
 use Rattle.code_notes_frame.specs.declared.frames.Decoded.{Decoded}
 use Rattle.code_notes_frame.specs.Meant.{partOf, meant}
 use Rattle.code_notes_back.specs.Restored.{backOf}
@@ -94,20 +94,15 @@ state-read c =
 
 -- and what running the call again finds, as far as the note asks for it
 abbrev read-of : tie.After-yields-again → tie.After-state-before
-read-of c = c .before .before .before .before .before .before
+read-of c = c .before .before .before .before .before
 
-threads-read : (c : tie.After-yields-again) → let f = framed-of (read-of c) in
-    c .before .before .threads-asked .result ≡ threadsAsked (callOf (callBytes (note₀ f))) (parts f)
-threads-read c =
+asked-read : (c : tie.After-yields-again) → let f = framed-of (read-of c) in
+    c .before .asked-by .result ≡ askedBy (callOf (callBytes (note₀ f))) (parts f)
+asked-read c =
     let r = read-of c in
-    c .before .before .threads-asked .ensures
-    ∙ ap (λ (s : List ℕ). threadsAsked (r .before .before .call-of .result) (sectionsAt sectionCount s)) (r .before .part-of .ensures)
-    ∙ ap (λ (y : Call). threadsAsked y (parts (framed-of r))) (call-read r)
-
-messages-read : (c : tie.After-yields-again) → c .before .messages-asked .result ≡ messagesAsked (parts (framed-of (read-of c)))
-messages-read c =
-    c .before .messages-asked .ensures
-    ∙ ap (λ (s : List ℕ). messagesAsked (sectionsAt sectionCount s)) (read-of c .before .part-of .ensures)
+    c .before .asked-by .ensures
+    ∙ ap (λ (s : List ℕ). askedBy (r .before .before .call-of .result) (sectionsAt sectionCount s)) (r .before .part-of .ensures)
+    ∙ ap (λ (y : Call). askedBy y (parts (framed-of r))) (call-read r)
 
 run-again : (c : tie.After-yields-again) → let f = framed-of (read-of c) in
     (read-of c .state-before .result .kernel ≡ old f)
@@ -117,10 +112,10 @@ run-again c =
     let f = framed-of r in
     let b = r .before .before .before in
     let (fits, kernel) = state-read r in
-    let l = sym fits ∙ not-false (r .state-before .result .fits) (c .before .before .before .before .if1 .left) in (
+    let l = sym fits ∙ not-false (r .state-before .result .fits) (c .before .before .before .if1 .left) in (
       kernel l,
       c .yields-again .ensures (ap levelsFit (kernel l) ∙ l)
-          ∙ asked-by (k₀ f) (note₀ f) (threads-read c) (messages-read c) (kernel l) (record-read b),
+          ∙ asked-by (k₀ f) (note₀ f) (asked-read c) (kernel l) (record-read b),
     )
 
 refused-requires-2 : tie.Need-refused-requires-2
@@ -135,11 +130,8 @@ returns-2 c =
     ∙ left-unfit (a .k) (note₀ f) (parts f) (framed f) (a .before) (a .used)
     (sym (state-read r .0) ∙ not-true (r .state-before .result .fits) (c .before .if1 .taken))
 
-threads-asked-requires : tie.Need-threads-asked-requires
-threads-asked-requires c κs = search needs
-
-messages-asked-requires : tie.Need-messages-asked-requires
-messages-asked-requires c κs = search needs
+asked-by-requires : tie.Need-asked-by-requires
+asked-by-requires c κs = search needs
 
 yields-again-requires : tie.Need-yields-again-requires
 yields-again-requires c κs = search needs
@@ -181,8 +173,7 @@ undo-note-spec =
     state-before-requires
     refused-requires-2
     returns-2
-    threads-asked-requires
-    messages-asked-requires
+    asked-by-requires
     yields-again-requires
     refused-requires-3
     returns-3

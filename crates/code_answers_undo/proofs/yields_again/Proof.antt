@@ -1,7 +1,7 @@
 -- `code_answers_undo::yields_again` meets its contract: each way out says which part of "yields this end state and this note" fails.
 use Prim.Native.Nat.{ℕ, _≤_}
 use mathlib.Core.Path.{_≡_, sym, _∙_}
-use mathlib.Core.Bool.{Bool, true, false}
+use mathlib.Core.Bool.{true, false}
 use mathlib.Core.List.{List}
 use lib.ListN.{length, take}
 use lib.Seq.{length-take-le}
@@ -9,6 +9,7 @@ use borrow.Author.Tests.{not-true, not-false}
 use borrow.Author.Needs.{needs}
 use Rattle.base_bytes.specs.Bytes.{begins}
 use Rattle.spec_kernel.specs.declared.records.Kernel.{Kernel}
+use Rattle.spec_rules.specs.declared.tests.Asked.{Asked}
 use Rattle.spec_rules.specs.Tests.{keepsAsked}
 use Rattle.spec_calls.specs.Calls.{callOf}
 use Rattle.spec_refusals.specs.Refusals.{numberOf}
@@ -27,7 +28,7 @@ returns : tie.Need-returns
 returns c = λ l.
     let a = c .before .before .before .args in
     let t = c .before .keeps-asked in
-    again-broken (a .threads) (a .messages) (a .old) (a .bytes) (a .end) (a .note .now) l
+    again-broken (a .asked) (a .old) (a .bytes) (a .end) (a .note .now) l
     (sym (t .ensures) ∙ not-true (t .result) (c .if1 .taken))
 
 slice-aggregate-recorded : tie.Need-slice-aggregate-recorded
@@ -46,16 +47,13 @@ bytes₀ c = c .before .before .before .before .before .args .bytes
 abbrev end₀ : tie.After-recorded → Kernel
 end₀ c = c .before .before .before .before .before .args .end
 
-abbrev threads₀ : tie.After-recorded → Bool
-threads₀ c = c .before .before .before .before .before .args .threads
-
-abbrev messages₀ : tie.After-recorded → Bool
-messages₀ c = c .before .before .before .before .before .args .messages
+abbrev asked₀ : tie.After-recorded → Asked
+asked₀ c = c .before .before .before .before .before .args .asked
 
 abbrev note₀ : tie.After-recorded → List ℕ
 note₀ c = c .before .before .before .before .before .args .note .now
 
-rules : (c : tie.After-recorded) → keepsAsked (threads₀ c) (messages₀ c) (old₀ c) ≡ true
+rules : (c : tie.After-recorded) → keepsAsked (asked₀ c) (old₀ c) ≡ true
 rules c = let t = c .before .before .before .keeps-asked in sym (t .ensures) ∙ not-false (t .result) (c .before .before .if1 .left)
 
 sixteen : (c : tie.After-recorded) → length (bytes₀ c) ≡ 16
@@ -64,7 +62,7 @@ sixteen c = c .before .before .before .before .before .good .1 .0 .1 .0 .1
 returns-2 : tie.Need-returns-2
 returns-2 c = λ l.
     let d : tie.After-recorded = c .before .before .before in
-    again-refused (threads₀ d) (messages₀ d) (old₀ d) (bytes₀ d) (end₀ d) (note₀ d) l (rules d)
+    again-refused (asked₀ d) (old₀ d) (bytes₀ d) (end₀ d) (note₀ d) l (rules d)
     (run-refused (old₀ d) (bytes₀ d) (sixteen d) _ (d .recorded .ensures .result) (c .if2 .taken))
 
 -- where it answers 0: it was accepted, the next state, and that the note stands in front
@@ -87,7 +85,7 @@ returns-3 : tie.Need-returns-3
 returns-3 c = λ l.
     let d : tie.After-recorded = c .before .before .before .before in
     let (n, _, _, _, w) = ran d (c .before .if2 .left) in
-    again-other (threads₀ d) (messages₀ d) (old₀ d) (bytes₀ d) (end₀ d) (note₀ d) l (rules d) n
+    again-other (asked₀ d) (old₀ d) (bytes₀ d) (end₀ d) (note₀ d) l (rules d) n
     (other-length (noteFor (old₀ d) (bytes₀ d)) (note₀ d) (λ h. c .if3 .taken (w ∙ h)))
 
 array-share-prefix-again : tie.Need-array-share-prefix-again
@@ -118,7 +116,7 @@ returns-4 c = λ l.
     let s : tie.After-same-bytes = c .before in
     let d = run-of s in
     let (n, _, _, _, _) = ran d (s .before .before .before .if2 .left) in
-    again-other (threads₀ d) (messages₀ d) (old₀ d) (bytes₀ d) (end₀ d) (note₀ d) l (rules d) n
+    again-other (asked₀ d) (old₀ d) (bytes₀ d) (end₀ d) (note₀ d) l (rules d) n
     (sym (sym (compared s) ∙ not-true (s .same-bytes .result) (c .if4 .taken)))
 
 same-asked-requires : tie.Need-same-asked-requires
@@ -130,7 +128,7 @@ returns-5 c = λ l.
     let d = run-of s in
     let (n, e, _, _, _) = ran d (s .before .before .before .if2 .left) in
     c .same-asked .ensures
-    ∙ again-same (threads₀ d) (messages₀ d) (old₀ d) (bytes₀ d) (end₀ d) (note₀ d) l (rules d) n
+    ∙ again-same (asked₀ d) (old₀ d) (bytes₀ d) (end₀ d) (note₀ d) l (rules d) n
     (sym (sym (compared s) ∙ not-false (s .same-bytes .result) (c .before .before .if4 .left))) _ e
 
 pub yields-again-spec : {M : Type 1} → statement M

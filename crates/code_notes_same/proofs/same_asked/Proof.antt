@@ -4,6 +4,7 @@ use mathlib.Core.Bool.{Bool, true, false, _&&_, and-true}
 use mathlib.Core.List.{List, [], _∷_, _++_}
 use borrow.Author.Needs.{needs}
 use Rattle.spec_kernel.specs.declared.records.Kernel.{Kernel}
+use Rattle.spec_rules.specs.declared.tests.Asked.{Asked}
 use Rattle.spec_rules.specs.Tests.{allOf}
 use Rattle.code_rules_records.proofs.Answers.{refused, passed}
 use Rattle.code_notes_same.specs.OfRecords.{ofRecords, ofOthers}
@@ -17,10 +18,9 @@ all-append [] m = refl
 all-append (true ∷ l) m = all-append l m
 all-append (false ∷ l) m = refl
 
-parts : (threads messages : Bool) (a b : Kernel)
-    → sameAsked threads messages a b ≡ (allOf (ofRecords threads messages a b) && allOf (ofOthers threads messages a b))
+parts : (asked : Asked) (a b : Kernel) → sameAsked asked a b ≡ (allOf (ofRecords asked a b) && allOf (ofOthers asked a b))
 unfolding sameAsked
-parts threads messages a b = all-append (ofRecords threads messages a b) (ofOthers threads messages a b)
+parts asked a b = all-append (ofRecords asked a b) (ofOthers asked a b)
 
 same-records-requires : tie.Need-same-records-requires
 same-records-requires c κs = search needs

@@ -11,16 +11,16 @@ threads-if-requires c κs = search needs
 returns : tie.Need-returns
 returns c = rw (refused (c .before .threads-if .ensures) (c .if1 .taken))
 
-same-semaphores-requires : tie.Need-same-semaphores-requires
-same-semaphores-requires c κs = search needs
+semaphores-if-requires : tie.Need-semaphores-if-requires
+semaphores-if-requires c κs = search needs
 
 returns-2 : tie.Need-returns-2
 returns-2 c =
     let d = c .before .before in
-    rw (passed (d .before .threads-if .ensures) (d .if1 .left), refused (c .before .same-semaphores .ensures) (c .if2 .taken))
+    rw (passed (d .before .threads-if .ensures) (d .if1 .left), refused (c .before .semaphores-if .ensures) (c .if2 .taken))
 
-same-events-requires : tie.Need-same-events-requires
-same-events-requires c κs = search needs
+events-if-requires : tie.Need-events-if-requires
+events-if-requires c κs = search needs
 
 returns-3 : tie.Need-returns-3
 returns-3 c =
@@ -28,8 +28,8 @@ returns-3 c =
     let d = e .before .before in
     rw (
       passed (d .before .threads-if .ensures) (d .if1 .left),
-      passed (e .before .same-semaphores .ensures) (e .if2 .left),
-      refused (c .before .same-events .ensures) (c .if3 .taken),
+      passed (e .before .semaphores-if .ensures) (e .if2 .left),
+      refused (c .before .events-if .ensures) (c .if3 .taken),
     )
 
 messages-if-requires : tie.Need-messages-if-requires
@@ -42,8 +42,8 @@ returns-4 c =
     let d = e .before .before in
     rw (
       passed (d .before .threads-if .ensures) (d .if1 .left),
-      passed (e .before .same-semaphores .ensures) (e .if2 .left),
-      passed (f .before .same-events .ensures) (f .if3 .left),
+      passed (e .before .semaphores-if .ensures) (e .if2 .left),
+      passed (f .before .events-if .ensures) (f .if3 .left),
       and-true,
     )
     (c .messages-if .ensures)
@@ -54,9 +54,9 @@ same-records-spec =
     (tie.spec
     threads-if-requires
     returns
-    same-semaphores-requires
+    semaphores-if-requires
     returns-2
-    same-events-requires
+    events-if-requires
     returns-3
     messages-if-requires
     returns-4)

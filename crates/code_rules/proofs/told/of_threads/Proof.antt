@@ -14,7 +14,6 @@ use Rattle.spec_kernel.specs.declared.records.Semaphore.{Semaphore}
 use Rattle.spec_kernel.specs.declared.records.Event.{Event}
 use Rattle.spec_kernel.specs.Records.{noThread}
 use Rattle.spec_kernel.specs.Sizes.{threadCount}
-use Rattle.spec_kernel.specs.Conditions.{isReady}
 use Rattle.spec_kernel.specs.Places.{hasHome, rankOf}
 use Rattle.spec_rules.specs.Tests.{threadKept, isTicking}
 use Rattle.code_rules_records.specs.Others.{Objects}
@@ -25,7 +24,7 @@ use Rattle.code_rules.proofs.told.of_threads.Statement.{statement}
 use Rattle.code_rules.proofs.told.of_threads.Tie as tie
 
 abbrev Inv-loop : tie.InvT-loop
-Inv-loop waited untrue flags threads kept₀ homes₀ ticking₀ ready₀ ranks₀ ticks₀ t₀ kept homes ticking ready ranks ticks t =
+Inv-loop waited untrue flags threads kept₀ homes₀ ticking₀ ranks₀ ticks₀ t₀ kept homes ticking ranks ticks t =
     (length threads ≡ threadCount)
     × (t ≤ threadCount)
     × ((semaphores : List Semaphore) (events : List Event) (bits : ℕ) → Objects waited untrue semaphores events bits
@@ -33,12 +32,11 @@ Inv-loop waited untrue flags threads kept₀ homes₀ ticking₀ ready₀ ranks�
     threads t)
     × Tells homes t (λ x. hasHome (getD threads x noThread))
     × Tells ticking t (λ x. isTicking (getD threads x noThread))
-    × Tells ready t (λ x. isReady (getD threads x noThread))
     × Keys ranks t (λ x. rankOf (getD threads x noThread))
     × Keys ticks t (λ x. getD threads x noThread .ticks)
 
 abbrev μ-loop : tie.MeasureT-loop
-μ-loop waited untrue flags threads kept₀ homes₀ ticking₀ ready₀ ranks₀ ticks₀ t₀ kept homes ticking ready ranks ticks t = threadCount - t
+μ-loop waited untrue flags threads kept₀ homes₀ ticking₀ ranks₀ ticks₀ t₀ kept homes ticking ranks ticks t = threadCount - t
 
 loop-holds : tie.Need-loop-holds Inv-loop μ-loop
 loop-holds c =
@@ -47,7 +45,6 @@ loop-holds c =
       e,
       omega arith,
       λ semaphores events bits _. sweep-starts (threadKept semaphores events bits (c .args .flags)) l,
-      tells-none _,
       tells-none _,
       tells-none _,
       keys-none _ _ refl,
@@ -75,12 +72,6 @@ joined-requires c κs = search needs
 joined-requires-2 : tie.Need-joined-requires-2 Inv-loop μ-loop
 joined-requires-2 c κs = search needs
 
-is-ready-requires : tie.Need-is-ready-requires Inv-loop μ-loop
-is-ready-requires c κs = search needs
-
-joined-requires-3 : tie.Need-joined-requires-3 Inv-loop μ-loop
-joined-requires-3 c κs = search needs
-
 rank-of-requires : tie.Need-rank-of-requires Inv-loop μ-loop
 rank-of-requires c κs = search needs
 
@@ -104,8 +95,7 @@ loop-less c = search needs
 
 loop-again : tie.Need-loop-again Inv-loop μ-loop
 loop-again c =
-    let ready = c .before in
-    let ticking = ready .before .before in
+    let ticking = c .before in
     let homes = ticking .before .before in
     let b = homes .before .before in
     let k = b .before in
@@ -116,9 +106,8 @@ loop-again c =
           (b .both .ensures ∙ ap (λ (x : Bool). l .kept && x) (k .thread-kept .ensures ∙ thread-by o _ _)),
       tells-more (l .inv .3) (omega arith) (homes .joined .ensures) (homes .before .has-home .ensures),
       tells-more (l .inv .4) (omega arith) (ticking .joined2 .ensures) refl,
-      tells-more (l .inv .5) (omega arith) (ready .joined3 .ensures) (ready .before .is-ready .ensures),
-      keys-next (l .inv .6) (omega arith) (c .rank-of .ensures),
-      keys-next (l .inv .7) (omega arith) refl,
+      keys-next (l .inv .5) (omega arith) (c .rank-of .ensures),
+      keys-next (l .inv .6) (omega arith) refl,
     )
 
 returns : tie.Need-returns Inv-loop μ-loop
@@ -130,9 +119,8 @@ returns c =
       kept = λ semaphores events bits o. sweep-ends (l .inv .2 semaphores events bits o) (omega arith);
       homes = rw e at (l .inv .3);
       ticking = rw e at (l .inv .4);
-      ready = rw e at (l .inv .5);
-      ranks = rw e at (l .inv .6);
-      ticks = rw e at (l .inv .7);
+      ranks = rw e at (l .inv .5);
+      ticks = rw e at (l .inv .6);
     }
 
 pub of-threads-spec : {M : Type 1} → statement M
@@ -149,8 +137,6 @@ of-threads-spec =
     has-home-requires
     joined-requires
     joined-requires-2
-    is-ready-requires
-    joined-requires-3
     rank-of-requires
     mul-ranks
     array-write-ranks
