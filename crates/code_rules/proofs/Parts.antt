@@ -79,7 +79,8 @@ module _ (k : Kernel) where
 -- what isn't gone through isn't asked for
 pub no-conditions : (asked : Asked) (k : Kernel) → conditionsAsked asked ≡ false → true ≡ allOf (threadTests asked k)
 no-conditions asked k h =
-    let (others, _) = neither (asked .threads || asked .semaphores) (asked .events) h in
+    let (objects, _) = neither (asked .threads || asked .semaphores || asked .events) (asked .flags) h in
+    let (others, _) = neither (asked .threads || asked .semaphores) (asked .events) objects in
     let (t, s) = neither (asked .threads) (asked .semaphores) others in
     rw (h, t, s)
 
