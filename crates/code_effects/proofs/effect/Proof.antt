@@ -13,7 +13,8 @@ use Rattle.code_effects.proofs.effect.Tie as tie
 -- the arms before that of the signals, and 20 of those, the last first
 abbrev arms : List (List ℕ)
 arms =
-    (34 ∷ []) ∷ (33 ∷ []) ∷ (32 ∷ []) ∷ (31 ∷ []) ∷ (27 ∷ []) ∷ (26 ∷ []) ∷ (25 ∷ []) ∷ (24 ∷ []) ∷ (21 ∷ []) ∷ (20 ∷ []) ∷ (19 ∷ 28 ∷ []) ∷ singles 18
+    (34 ∷ []) ∷ (33 ∷ []) ∷ (32 ∷ []) ∷ (31 ∷ [])
+    ∷ (27 ∷ []) ∷ (26 ∷ []) ∷ (25 ∷ []) ∷ (24 ∷ []) ∷ (21 ∷ []) ∷ (20 ∷ []) ∷ (19 ∷ 28 ∷ []) ∷ singles 18
 
 tick-requires : tie.Need-tick-requires
 tick-requires c κs = search needs

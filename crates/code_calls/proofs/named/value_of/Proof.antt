@@ -1,9 +1,10 @@
 -- `code_calls::named::value_of` meets its contract: the row says what is found, class by class.
 use mathlib.Core.Path.{_≡_, sym, ap, _∙_}
-use mathlib.Core.Bool.{false}
+use mathlib.Core.Bool.{false, cond}
 use lib.Dec.{eqb}
 use borrow.Author.Needs.{needs}
 use borrow.Author.Tests.{ne-eqb}
+use Rattle.spec_kernel.specs.Free.{freeFlag}
 use Rattle.spec_calls.specs.declared.kinds.Kind.{Kind}
 use Rattle.spec_calls.specs.Kinds.{kindOf}
 use Rattle.spec_refusals.specs.Named.{valueOf}
@@ -84,37 +85,29 @@ returns-4 c =
     let g = f .before .before in
     rw (no-thread g, no-semaphore f, sym (of-message (g .before .before)) ∙ t .if4 .taken) (c .next-message .ensures)
 
-returns-5 : tie.Need-returns-5
+-- none of these classes has it: the flags are left
+flags-left : (c : tie.Else4)
+    → let a = c .before .before .before .before .before .before .before .before .before .args in
+    valueOf (a .k) (a .c) ≡ cond (eqb (kindOf (a .c) .flag) 5) (freeFlag (a .k)) 255
 unfolding valueOf
+flags-left c =
+    let e = c .before .before in
+    let f = e .before .before in
+    rw (no-thread (f .before .before), no-semaphore f, no-message e, no-taken c)
+
+abbrev row-at : tie.Else4 → tie.After-kind-of
+row-at c = c .before .before .before .before .before .before .before .before
+
+returns-5 : tie.Need-returns-5
 returns-5 c =
     let t = c .before in
-    let d = t .before .before in
-    let e = d .before .before in
-    let f = e .before .before in
-    let g = f .before .before in
-    rw (
-      no-thread g,
-      no-semaphore f,
-      no-message e,
-      no-taken d,
-      sym (of-flag (g .before .before)) ∙ t .if5 .taken,
-      c .free-flag .ensures,
-    )
+    let e = t .before .before in
+    rw (flags-left e, sym (of-flag (row-at e)) ∙ t .if5 .taken, c .free-flag .ensures)
 
 returns-6 : tie.Need-returns-6
-unfolding valueOf
 returns-6 c =
-    let d = c .before .before in
-    let e = d .before .before in
-    let f = e .before .before in
-    let g = f .before .before in
-    rw (
-      no-thread g,
-      no-semaphore f,
-      no-message e,
-      no-taken d,
-      ne-eqb _ 5 (λ z. c .if5 .left (of-flag (g .before .before) ∙ z)),
-    )
+    let e = c .before .before in
+    rw (flags-left e, ne-eqb _ 5 (λ z. c .if5 .left (of-flag (row-at e) ∙ z)))
 
 pub value-of-spec : {M : Type 1} → statement M
 value-of-spec =

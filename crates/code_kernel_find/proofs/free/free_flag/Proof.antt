@@ -22,7 +22,8 @@ bit-requires : tie.Need-bit-requires Inv-loop μ-loop
 bit-requires c κs = search needs
 
 returns : tie.Need-returns Inv-loop μ-loop
-returns c = clear-here _ _ _ (c .before .before .before .loop .inv) (omega arith) (sym (c .before .bit .ensures) ∙ not-true _ (c .if1 .taken))
+returns c =
+    clear-here _ _ _ (c .before .before .before .loop .inv) (omega arith) (sym (c .before .bit .ensures) ∙ not-true _ (c .if1 .taken))
 
 add-i : tie.Need-add-i Inv-loop μ-loop
 add-i c = search needs
