@@ -29,8 +29,15 @@ module _ (k : Kernel) (bytes : List ℕ) (k′ : Kernel) where
     note-short =
         let c = callOf bytes in
         let all = note-length k bytes k′ sixteen in
-        omega (arith, scheduler-short k c k′, threads-below k c k′, semaphores-below k c k′, events-below k c k′, flags-below k c k′,
-        messages-below k c k′)
+        omega (
+          arith,
+          scheduler-short k c k′,
+          threads-below k c k′,
+          semaphores-below k c k′,
+          events-below k c k′,
+          flags-below k c k′,
+          messages-below k c k′,
+        )
 
     -- a front and its length behind it are the note: m and n from the front's writer, q from the number's
     pub note-closed : (l m : List ℕ) (n : ℕ) (q : Pen) → longestNote ≤ length l → pen m n ≡ puts (pen l 0) (beforeLength k bytes k′)

@@ -41,7 +41,10 @@ fn table_kept(asked: bool, q: Queue, set: u64, keys: [u32; CAPACITY]) -> bool
 fn conditions_asked(asked: Asked) -> bool
     ensures { λ r. ⌜ r ≡ conditionsAsked asked ⌝ }
 {
-    either(either(either(asked.threads, asked.semaphores), asked.events), asked.flags)
+    either(
+        either(either(asked.threads, asked.semaphores), asked.events),
+        asked.flags,
+    )
 }
 
 // Semaphores, threads, and the two tables that threads stand in.

@@ -71,7 +71,12 @@ pub fn of_events(events: [Event; sizes::EVENTS], bits: u32) -> u64
 }
 
 // Who belongs in the table of places and in the time queue. `waited` and `untrue` are what the objects told, and `flags` has the live ones.
-pub fn of_threads(threads: [Thread; sizes::THREADS], waited: u64, untrue: u64, flags: u16) -> Threads
+pub fn of_threads(
+    threads: [Thread; sizes::THREADS],
+    waited: u64,
+    untrue: u64,
+    flags: u16,
+) -> Threads
     ensures { λ r. ⌜ OfThreads threads waited untrue flags r ⌝ }
 {
     let mut kept = true;
@@ -82,7 +87,10 @@ pub fn of_threads(threads: [Thread; sizes::THREADS], waited: u64, untrue: u64, f
     let mut t: usize = 0;
     while t < sizes::THREADS {
         let r = threads[t];
-        kept = both(kept, code_rules_records::thread_kept(waited, untrue, flags, r));
+        kept = both(
+            kept,
+            code_rules_records::thread_kept(waited, untrue, flags, r),
+        );
         homes = sets::joined(homes, t, places::has_home(r));
         ticking = sets::joined(ticking, t, 0 < r.ticks);
         ranks[t] = places::rank_of(r);

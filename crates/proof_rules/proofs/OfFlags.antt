@@ -97,7 +97,7 @@ module _ {k : Kernel} (B : Before k) {c : Call} (A : Accepted k c) where
         runs = λ _. ready;
         running = λ _. ready;
       } in
-      block-good out ready (ForFlag (c .a)) (c .c) (live-flag k (c .a) (flag-named A e refl)) 
+      block-good out ready (ForFlag (c .a)) (c .c) (live-flag k (c .a) (flag-named A e refl))
       (le-ltb 0 (k .unscheduled + (k .critical - 1)) (omega arith)) (λ _ _ _. refl)
 
   pub kind-34 : c .kind ≡ 34 → Good (postFlag k c)

@@ -89,8 +89,15 @@ module _ (k : Kernel) (bytes : List ℕ) (k′ : Kernel) (h : length bytes ≡ 1
   note-sizes =
       let c = callOf bytes in
       let all = note-length k bytes k′ h in
-      omega (arith, scheduler-short k c k′, threads-below k c k′, semaphores-below k c k′, events-below k c k′, flags-below k c k′,
-      messages-below k c k′)
+      omega (
+        arith,
+        scheduler-short k c k′,
+        threads-below k c k′,
+        semaphores-below k c k′,
+        events-below k c k′,
+        flags-below k c k′,
+        messages-below k c k′,
+      )
 
   front-size : length (noteOf k bytes k′) ≡ length (beforeLength k bytes k′) + 2
   unfolding noteOf
