@@ -7,7 +7,7 @@ use lib.ListN.{length, take, drop, getD, replicate}
 use Rattle.base_queue.specs.Lists.{firstOf}
 use Rattle.spec_kernel.specs.declared.records.Kernel.{Kernel}
 use Rattle.base_bytes.specs.Bytes.{begins}
-use Rattle.spec_notes.specs.Notes.{threadsIn, semaphoresIn, messagesIn}
+use Rattle.spec_notes.specs.Notes.{threadsIn, semaphoresIn, flagsIn, messagesIn}
 use Rattle.spec_notes.specs.Frames.{framesOf, sectionsIn}
 use Rattle.code_notes_frame.specs.Meant.{recordOf}
 use Rattle.spec_answers.specs.declared.Answer.{Answer}
@@ -24,7 +24,8 @@ valueIn note =
     let x = sectionsIn (framesOf note) in
     let kind = getD note 0 0 in
     cond (eqb kind 2) (firstOf (threadsIn x))
-    (cond (eqb kind 14) (firstOf (semaphoresIn x)) (cond (eqb kind 24 || eqb kind 27) (firstOf (messagesIn x)) 255))
+    (cond (eqb kind 14) (firstOf (semaphoresIn x))
+    (cond (eqb kind 24 || eqb kind 27) (firstOf (messagesIn x)) (cond (eqb kind 31) (firstOf (flagsIn x)) 255)))
 
 -- the call of a note on a state, with an empty log of its own, yields this end state and this very note, with the answer that it tells
 unfoldable pub yieldsNote : Kernel → List ℕ → Kernel → Bool

@@ -46,6 +46,7 @@ fn value_in(note: &[u8]) -> u8
         2 => first_of(frames::section_of(s, frames::THREADS_AT)),
         14 => first_of(frames::section_of(s, frames::SEMAPHORES_AT)),
         24 | 27 => first_of(frames::section_of(s, frames::MESSAGES_AT)),
+        31 => first_of(frames::section_of(s, frames::FLAGS_AT)),
         _ => 255,
     }
 }

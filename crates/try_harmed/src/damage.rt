@@ -11,9 +11,9 @@ use spec_kernel::records::Thread;
 use spec_kernel::records::Wake;
 use spec_kernel::sizes;
 
-// Threads have 7 fields, semaphores 5, events 3, messages 7, the tables 6 (length and one place of each of three), and the state 5 more
-// (bits, uptime, two levels, runner).
-pub(crate) const FIELDS: u8 = 33;
+// Threads have 7 fields, semaphores 5, events 3, messages 7, the tables 6 (length and one place of each of three), and the state 6 more
+// (bits, uptime, two levels, runner, flags).
+pub(crate) const FIELDS: u8 = 34;
 
 // One damage: the field's number, the id or place, and the value.
 struct Damage {
@@ -65,12 +65,13 @@ fn condition(d: Damage, field: u8, old: Condition) -> Condition {
     if d.field != field {
         return old;
     }
-    let v = d.value / 5;
-    match d.value % 5 {
+    let v = d.value / 6;
+    match d.value % 6 {
         0 => Condition::Ready,
         1 => Condition::Asleep,
         2 => Condition::ForSemaphore((v % 256) as u8),
         3 => Condition::ForEvent((v % 256) as u8),
+        4 => Condition::ForFlag((v % 256) as u8),
         _ => Condition::ForMessage((v % 65536) as u16),
     }
 }
@@ -163,6 +164,7 @@ fn with_numbers(mut k: Kernel, d: Damage) -> Kernel {
     k.unscheduled = byte(d, 30, k.unscheduled);
     k.critical = byte(d, 31, k.critical);
     k.runner = byte(d, 32, k.runner);
+    k.flags = half(d, 33, k.flags);
     k
 }
 

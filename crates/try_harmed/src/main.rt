@@ -14,7 +14,7 @@
 // A trial in which anything else comes back is wrong, and counted once. So is a record of the run that wrote more than its note.
 //
 // A line for the records of the run and one for the damaged states: how many were tried, and how many of them were broken (14),
-// refused for another reason, and accepted. A state has 33 fields (damage::FIELDS): 33 times the number of records is tried. The last line
+// refused for another reason, and accepted. A state has 34 fields (damage::FIELDS): 34 times the number of records is tried. The last line
 // has all wrong ones; it must be 0. How many are broken, refused or accepted depends on what was drawn.
 mod damage;
 

@@ -36,14 +36,27 @@ returns-4 c =
 returns-5 : tie.Need-returns-5
 unfolding sameNumbers
 returns-5 c =
-    let d = c .before .before in
+    let d = c .before .before .before in
     rw (
       eq-eqb _ _ (d .before .before .before .before .before .before .before .before .before .if1 .left),
       eq-eqb _ _ (d .before .before .before .before .before .before .if2 .left),
       eq-eqb _ _ (d .before .before .before .if3 .left),
       eq-eqb _ _ (d .if4 .left),
+      ne-eqb _ _ (c .if5 .taken),
+    )
+
+returns-6 : tie.Need-returns-6
+unfolding sameNumbers
+returns-6 c =
+    let d = c .before .before .before .before .before in
+    rw (
+      eq-eqb _ _ (d .before .before .before .before .before .before .before .before .before .if1 .left),
+      eq-eqb _ _ (d .before .before .before .before .before .before .if2 .left),
+      eq-eqb _ _ (d .before .before .before .if3 .left),
+      eq-eqb _ _ (d .if4 .left),
+      eq-eqb _ _ (c .before .before .if5 .left),
       and-true,
     )
 
 pub same-numbers-spec : {M : Type 1} → statement M
-same-numbers-spec = tie.close (tie.spec returns returns-2 returns-3 returns-4 returns-5)
+same-numbers-spec = tie.close (tie.spec returns returns-2 returns-3 returns-4 returns-5 returns-6)

@@ -4,10 +4,10 @@ use Rattle.try_harmed.proofs.trials.Statement.{statement}
 use Rattle.try_harmed.proofs.trials.Tie as tie
 
 abbrev Inv-loop : tie.InvT-loop
-Inv-loop k bytes log₀ copy used next₀ field₀ log next field = field ≤ 33
+Inv-loop k bytes log₀ copy used next₀ field₀ log next field = field ≤ 34
 
 abbrev μ-loop : tie.MeasureT-loop
-μ-loop k bytes log₀ copy used next₀ field₀ log next field = 33 - field
+μ-loop k bytes log₀ copy used next₀ field₀ log next field = 34 - field
 
 loop-holds : tie.Need-loop-holds Inv-loop μ-loop
 loop-holds c = search needs

@@ -17,11 +17,12 @@ use borrow.Author.Needs.{needs}
 use Rattle.try_entries.proofs.again.value_in.Statement.{statement}
 use Rattle.try_entries.proofs.again.value_in.Tie as tie
 
-same : (n : ℕ) (a b d : Bool) → n ≡ cond a n (cond b n (cond d n n))
-same n true b d = refl
-same n false true d = refl
-same n false false true = refl
-same n false false false = refl
+same : (n : ℕ) (a b d f : Bool) → n ≡ cond a n (cond b n (cond d n (cond f n n)))
+same n true b d f = refl
+same n false true d f = refl
+same n false false true f = refl
+same n false false false true = refl
+same n false false false false = refl
 
 abbrev note₀ : tie.After-p → List ℕ
 note₀ c = c .before .before .before .before .args .note .now
@@ -51,7 +52,8 @@ returns c =
     let note = c .before .before .before .before .args .note .now in
     let e : framesOf note ≡ nothing =
     sym (c .before .before .frames-of .ensures .1) ∙ ap (λ (d : Decoded). meant d note) (c .enum-told .given .1) in
-    rw e (same 255 (eqb (getD note 0 0) 2) (eqb (getD note 0 0) 14) (eqb (getD note 0 0) 24 || eqb (getD note 0 0) 27))
+    let kind = getD note 0 0 in
+    rw e (same 255 (eqb kind 2) (eqb kind 14) (eqb kind 24 || eqb kind 27) (eqb kind 31))
 
 part-of-requires : tie.Need-part-of-requires
 part-of-requires c κs = search needs
@@ -77,6 +79,12 @@ section-of-requires-3 c κs = search needs
 first-of-requires-3 : tie.Need-first-of-requires-3
 first-of-requires-3 c κs = search needs
 
+section-of-requires-4 : tie.Need-section-of-requires-4
+section-of-requires-4 c κs = search needs
+
+first-of-requires-4 : tie.Need-first-of-requires-4
+first-of-requires-4 c κs = search needs
+
 returns-2 : tie.Need-returns-2
 unfolding valueIn
 returns-2 c =
@@ -97,7 +105,7 @@ returns-4 c =
     let s : tie.After-part-of = c .before .before .before .before in
     let f = s .before .before in
     let b = c .before .before .before .byte-at in
-    let r : c .first-of3 .result ≡ firstOf (getD (parts f) 4 []) =
+    let r : c .first-of3 .result ≡ firstOf (getD (parts f) 5 []) =
     c .first-of3 .ensures ∙ ap firstOf (c .before .section-of3 .ensures ∙ section-in s _) in
     ⊎-elim (λ (e : b .result ≡ 24). rw (framed f, sym (b .ensures) ∙ e) r) (λ (e : b .result ≡ 27). rw (framed f, sym (b .ensures) ∙ e) r)
     (c .before .before .match2 .keys3)
@@ -105,14 +113,21 @@ returns-4 c =
 returns-5 : tie.Need-returns-5
 unfolding valueIn
 returns-5 c =
+    let s : tie.After-part-of = c .before .before .before .before in
+    rw (framed (s .before .before), sym (c .before .before .before .byte-at .ensures) ∙ c .before .before .match2 .keys4)
+    (c .first-of4 .ensures ∙ ap firstOf (c .before .section-of4 .ensures ∙ section-in s _))
+
+returns-6 : tie.Need-returns-6
+unfolding valueIn
+returns-6 c =
     let b = c .before .byte-at .ensures in
     let r = c .match2 .rest in
     rw (
-      ne-eqb _ 2 (λ e. r .0 .0 .1 (b ∙ e)),
-      ne-eqb _ 14 (λ e. r .0 .1 (b ∙ e)),
-      ne-eqb _ 24 (λ e. r .1 (inl (b ∙ e))),
-      ne-eqb _ 27
-          (λ e. r .1 (inr (b ∙ e))),
+      ne-eqb _ 2 (λ e. r .0 .0 .0 .1 (b ∙ e)),
+      ne-eqb _ 14 (λ e. r .0 .0 .1 (b ∙ e)),
+      ne-eqb _ 24 (λ e. r .0 .1 (inl (b ∙ e))),
+      ne-eqb _ 27 (λ e. r .0 .1 (inr (b ∙ e))),
+      ne-eqb _ 31 (λ e. r .1 (b ∙ e)),
     )
 
 pub value-in-spec : {M : Type 1} → statement M
@@ -131,7 +146,10 @@ value-in-spec =
     first-of-requires-2
     section-of-requires-3
     first-of-requires-3
+    section-of-requires-4
+    first-of-requires-4
     returns-2
     returns-3
     returns-4
-    returns-5)
+    returns-5
+    returns-6)
