@@ -44,8 +44,8 @@ fn may_differ(c: Call, kind: u8, s: &[u8], i: usize) -> bool
     speaks_of(s, i)
 }
 
-// Which tables may be others than in the end state: those that the note speaks of, those that time ages where it passes, and the flags where
-// one is destroyed.
+// Which tables may be others than in the end state: those that the note speaks of, those that time ages where it passes, and the flags
+// where one is destroyed.
 fn asked_by(c: Call, s: &[u8]) -> Asked
     ensures { λ r. ⌜ r ≡ askedBy c (sectionsAt sectionCount (now (s .entry))) ⌝ }
 {

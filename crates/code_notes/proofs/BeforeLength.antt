@@ -19,7 +19,8 @@ use Rattle.spec_notes.proofs.Lengths.{note-length}
 module _ (k : Kernel) (bytes : List ℕ) (k′ : Kernel) where
   pub parts-put : (p : Pen) → let c = callOf bytes in
       puts (puts (puts (puts (puts (puts (puts p bytes) (section (schedulerSection k c k′))) (section (threadsSection k c k′)))
-      (section (semaphoresSection k c k′))) (section (eventsSection k c k′))) (section (flagsSection k c k′))) (section (messagesSection k c k′))
+      (section (semaphoresSection k c k′))) (section (eventsSection k c k′))) (section (flagsSection k c k′)))
+      (section (messagesSection k c k′))
       ≡ puts p (beforeLength k bytes k′)
   unfolding beforeLength
   parts-put p = simp (append-nil, puts-append)

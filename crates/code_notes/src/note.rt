@@ -84,8 +84,8 @@ pub fn put_start(log: &mut [u8], bytes: [u8; 16], c: Call, k: Kernel, k2: Kernel
     put_section(log, first, &scratch[..n])
 }
 
-// `waiter` is the first that waits for semaphore or flag a. Where a call can touch no id of a table, the table isn't taken out of the states:
-// that would copy it.
+// `waiter` is the first that waits for semaphore or flag a. Where a call can touch no id of a table, the table isn't taken out of the
+// states: that would copy it.
 pub fn put_thread_part(
     log: &mut [u8],
     at: usize,

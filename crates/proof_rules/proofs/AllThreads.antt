@@ -29,7 +29,8 @@ module _ {S : List Semaphore} {waited : ℕ → Bool} {flags : ℕ} where
   stays F = record { fine = F; live = λ e. e; ready = λ e. e; calm = λ _ e. e }
 
   -- a live thread may wake
-  pub becomes-awake : {r s : Thread} → Becomes S waited flags r s → s .live ≡ true → (why : Wake) → Becomes S waited flags r (awake why (s .reply) s)
+  pub becomes-awake : {r s : Thread} → Becomes S waited flags r s → s .live ≡ true → (why : Wake)
+      → Becomes S waited flags r (awake why (s .reply) s)
   becomes-awake {s} B l why = record {
     fine = awake-fine (B .fine) l why (s .reply) (B .fine .living l .reply);
     live = λ _. l;

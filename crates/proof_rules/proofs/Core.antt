@@ -116,7 +116,8 @@ module _ {waited : ℕ → Bool} {k : Kernel} (C : Core waited k) where
 
   -- of a thread that isn't live too
   pub condition-of : (t : ℕ) → Fits (k .semaphores) waited (k .flags) (thread k t .ticks) (thread k t .condition)
-  condition-of t = live-or-not (λ r. Fits (k .semaphores) waited (k .flags) (r .ticks) (r .condition)) (C .threads t) (λ L. L .condition) refl
+  condition-of t =
+      live-or-not (λ r. Fits (k .semaphores) waited (k .flags) (r .ticks) (r .condition)) (C .threads t) (λ L. L .condition) refl
 
   -- one whose condition isn't ready is live
   pub live-waiter : (t : ℕ) → (thread k t .condition ≡ Ready → ⊥) → thread k t .live ≡ true

@@ -1,7 +1,7 @@
 -- Device flags: what create, destroy, pend and post keep.
 use Prim.Native.Nat.{ℕ, _+_, _-_, _<_}
 use mathlib.Core.Path.{_≡_, refl, sym, _∙_}
-use mathlib.Core.Bool.{Bool, true, false, _&&_, or-false, and-eq-true-iff}
+use mathlib.Core.Bool.{Bool, true, false, or-false, and-eq-true-iff}
 use mathlib.Core.List.{[]}
 use native.Mathlib.Omega.{arith}
 use lib.Dec.{eqb, ltb}
@@ -24,7 +24,8 @@ use Rattle.spec_moves.specs.Standing.{threadsOf}
 use Rattle.spec_calls.specs.declared.call.Call.{Call}
 use Rattle.spec_calls.specs.Kinds.{kindOf, fromThread}
 use Rattle.spec_refusals.specs.Named.{named, valueOf}
-use Rattle.spec_refusals.specs.Refusals.{blocksInRegion, noneFree}
+use Rattle.spec_refusals.specs.Refusals.{noneFree}
+use Rattle.spec_refusals.proofs.FlagPends.{pend-flag-six}
 use Rattle.spec_refusals.proofs.Waiters.{has-waiters}
 use Rattle.spec_threads.specs.Threads.{wokenIn}
 use Rattle.spec_regions.specs.Regions.{popCritical}
@@ -49,13 +50,8 @@ flag-waiter C t i e =
     home-line C (768 + i) t (rw (live-waiter C t (λ z. let y : _≡_ {A = ℕ} 0 1 = cc in omega arith), e)) (omega arith)
 
 -- an accepted pend comes at critical level 1 and unscheduled level 0
-pub pend-levels : {k : Kernel} {c : Call} → Accepted k c → c .kind ≡ 33 → (k .unscheduled ≡ 0) × (k .critical ≡ 1)
-unfolding blocksInRegion
-pend-levels {k} A e =
-    let (u, one) =
-    and-eq-true-iff (eqb (k .unscheduled) 0) (eqb (k .critical) 1) .0
-    (not-false (eqb (k .unscheduled) 0 && eqb (k .critical) 1) (rw e at (A .region))) in
-    (eqb-true (k .unscheduled) 0 u, eqb-true (k .critical) 1 one)
+pub pend-levels : {k : Kernel} {c : Call} → Accepted k c → c .kind ≡ 33 → (k .critical ≡ 1) × (k .unscheduled ≡ 0)
+pend-levels {k} {c} A e = pend-flag-six (k .unscheduled) (k .critical) (k .runner) (named k c) c e .0 (A .region)
 
 module _ {k : Kernel} (B : Before k) {c : Call} (A : Accepted k c) where
   -- one more is live
@@ -90,7 +86,7 @@ module _ {k : Kernel} (B : Before k) {c : Call} (A : Accepted k c) where
   pub kind-33 : c .kind ≡ 33 → Good (pendFlag k c)
   unfolding pendFlag popCritical fromThread kindOf
   kind-33 e =
-      let (u, one) = pend-levels A e in
+      let (one, u) = pend-levels A e in
       let ready = caller-ready B A (rw e) in
       let out : Before (popCritical k c) = record {
         core = scheduler-core (B .core) (k .uptime) (k .unscheduled) (k .critical - 1) (k .runner);

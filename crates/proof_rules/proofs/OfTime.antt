@@ -113,7 +113,8 @@ pulses-keep C i (suc n) =
     (D′, λ r. R′ (R r), U′ ∙ U)
 
 -- what the time makes of each thread
-becomes : {k : Kernel} → Before k → (t : ℕ) → Becomes (k .semaphores) (untrue k) (k .flags) (thread k t) (threadIn (timePasses (threadsOf k)) t)
+becomes : {k : Kernel} → Before k → (t : ℕ)
+    → Becomes (k .semaphores) (untrue k) (k .flags) (thread k t) (threadIn (timePasses (threadsOf k)) t)
 becomes {k} B t = rw (passes-record (B .core .standing) t)
     (passes-becomes (k .semaphores) (untrue k) (k .flags) (thread k t) (B .core .threads t))
 

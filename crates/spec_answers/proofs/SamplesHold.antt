@@ -37,7 +37,8 @@ use Rattle.spec_notes.specs.Sections.{threadsSection, semaphoresSection, events
 use Rattle.spec_notes.specs.Notes.{beforeLength, noteOf}
 use Rattle.spec_notes.specs.Frames.{isWhole, firstSection, behindSection, sectionsAt, areWhole, sectionBytes, framesOf}
 use Rattle.spec_notes.specs.Back.{putBackAll, threadOwn, threadRead, threadsBefore, semaphoreRead, semaphoresBefore, eventRead}
-use Rattle.spec_notes.specs.Back.{bitsBefore, eventsBefore, flagsBefore, messageRead, messagesBefore, levelsBefore, threadsBack, postsBack, beforeAt}
+use Rattle.spec_notes.specs.Back.{bitsBefore, eventsBefore, flagsBefore, messageRead, messagesBefore, levelsBefore, threadsBack}
+use Rattle.spec_notes.specs.Back.{postsBack, beforeAt}
 use Rattle.spec_notes.specs.Back.{stateBefore}
 use Rattle.spec_notes.specs.Undo.{lastLength, hasLast, lastNote}
 use Rattle.spec_notes.specs.Same.{sameQueue, sameNumbers, sameKernel}

@@ -247,7 +247,7 @@ module _ {k : Kernel} (B : Before k) {c : Call} (A : Accepted k c) where
   kind-33 : c .kind ≡ 33 → Holds (pendFlag k c)
   unfolding kindOf fromThread
   kind-33 e =
-      let (u, one) = pend-levels A e in by-kind k c e _ (refl, pend-flag-pends k c (B .core .standing) u one (runnable B A (rw e)))
+      let (one, u) = pend-levels A e in by-kind k c e _ (refl, pend-flag-pends k c (B .core .standing) u one (runnable B A (rw e)))
 
   kind-34 : c .kind ≡ 34 → Holds (postFlag k c)
   kind-34 e = by-kind k c e _ (refl, post-flag-posts k c (B .core .standing) (bytes (B .core)))

@@ -55,7 +55,9 @@ module _ (k : Kernel) (c : Call) where
         lowest = λ j b. rw (lt-ltb j flagCount (omega (arith, inside)), clear-is-lowest (k .flags) flagCount some j b);
         made = record {
           made = rw (lt-ltb (freeFlag k) flagCount inside, bit-same (k .flags) (freeFlag k) (omega (arith, inside)));
-          only = only-flag k (freeFlag k) (withBit (k .flags) (freeFlag k)) (λ j ne. rw (bit-other (k .flags) (freeFlag k) j (λ e. ne (sym e))));
+          only =
+              only-flag k (freeFlag k) (withBit (k .flags) (freeFlag k))
+              (λ j ne. rw (bit-other (k .flags) (freeFlag k) j (λ e. ne (sym e))));
         };
       }
 

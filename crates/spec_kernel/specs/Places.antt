@@ -1,5 +1,5 @@
 -- Where threads and messages stand: every list, queue and channel of document 01 by its own name.
--- They are stored in three tables. `places` has the ready lists by priority, then the semaphores' queues, then the events', then the flags';
+-- They are stored in three tables. `places` has the ready lists by priority, then the queues of semaphores, of events and of flags;
 -- `posted` has the channels by owner, then by number; `time` is the time queue. A list is the run of a table that has its home.
 use Prim.Native.Nat.{ℕ, _+_, _*_}
 use mathlib.Core.Bool.{Bool, not, cond, _&&_}
@@ -38,7 +38,8 @@ homeFor (ForEvent i) priority = home ofEvents i
 homeFor (ForMessage mask) priority = nowhere
 homeFor (ForFlag i) priority = home ofFlags i
 
--- Where a thread stands: in its priority's list, in the queue of the semaphore, event or flag it waits for, or nowhere [01, state 1.2, 1.3].
+-- Where a thread stands: in its priority's list, in the queue of the semaphore, event or flag it waits for, or nowhere [01, state 1.2,
+-- 1.3; 02 §1].
 unfoldable pub homeOf : Thread → ℕ
 homeOf r = cond (r .live) (homeFor (r .condition) (r .priority)) nowhere
 

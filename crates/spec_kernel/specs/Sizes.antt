@@ -1,4 +1,5 @@
--- How many there are of each thing that documents 01 and 02 number: the one place in the definitions that has these numbers [01, modelled 4].
+-- How many there are of each thing that documents 01 and 02 number: the one place in the definitions that has these numbers
+-- [01, modelled 4; 02 §1].
 use Prim.Native.Nat.{ℕ}
 
 -- ids are below these

@@ -11,7 +11,8 @@ use Rattle.spec_kernel.specs.declared.records.Wake.{Wake}
 use Rattle.spec_kernel.specs.declared.records.Kernel.{Kernel}
 use Rattle.spec_kernel.specs.Records.{thread, message, noThread, noMessage}
 use Rattle.spec_kernel.specs.Conditions.{isReady}
-use Rattle.spec_kernel.specs.Places.{nowhere, homeFor, readyHome, atHome, readyList, semaphoreQueue, eventQueue, flagQueue, timeQueue, channel}
+use Rattle.spec_kernel.specs.Places.{nowhere, homeFor, readyHome, atHome, readyList, semaphoreQueue, eventQueue, flagQueue}
+use Rattle.spec_kernel.specs.Places.{timeQueue, channel}
 use Rattle.spec_laws.specs.Words.{readied, stopped, prioritized, newborn, OnlyThreads, OtherThreads, SameEvents, SameScheduler}
 
 -- ---- waking

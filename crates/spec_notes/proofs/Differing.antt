@@ -13,7 +13,8 @@ use Rattle.spec_notes.specs.Rows.{messageRow}
 use Rattle.spec_notes.specs.Touched.{sameThread, sameSemaphore, sameMessage}
 use Rattle.spec_notes.specs.Counts.{Differ, withoutPlace}
 use Rattle.spec_notes.proofs.RecordsBack.{same-thread, same-semaphore, same-message}
-use Rattle.spec_notes.proofs.Counting.{sameMessageRecord, threadsDiffer, semaphoresDiffer, messagesDiffer, flagsDiffer, counts-tested}
+use Rattle.spec_notes.proofs.Counting.{sameMessageRecord, threadsDiffer, semaphoresDiffer, messagesDiffer, flagsDiffer}
+use Rattle.spec_notes.proofs.Counting.{counts-tested}
 use Rattle.spec_notes.proofs.Slight.{row-same}
 use Rattle.spec_notes.proofs.Lengths.{thread-same, semaphore-same}
 

@@ -16,7 +16,8 @@ use Rattle.spec_notes.specs.Sections.{flagsSection, messagesSection}
 use Rattle.spec_notes.specs.Notes.{section, framed, sectionsOf, beforeLength, noteOf, leastNote}
 use Rattle.spec_notes.specs.Frames.{sections, isWhole, firstSection, behindSection, sectionsAt, areWhole, sectionBytes, framesOf}
 use Rattle.spec_notes.specs.Undo.{lastLength, hasLast, lastNote}
-use Rattle.spec_notes.proofs.EntriesShort.{scheduler-short, threads-below, semaphores-below, events-below, flags-below, messages-below}
+use Rattle.spec_notes.proofs.EntriesShort.{scheduler-short, threads-below, semaphores-below, events-below, flags-below}
+use Rattle.spec_notes.proofs.EntriesShort.{messages-below}
 use Rattle.spec_notes.proofs.Lengths.{note-length}
 
 -- ---- one section

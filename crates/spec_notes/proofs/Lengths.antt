@@ -36,7 +36,8 @@ use Rattle.spec_notes.specs.Touched.{youngerSemaphore, movesInPlace}
 use Rattle.spec_notes.specs.Touched.{touchedThread, touchedSemaphore, touchedEvent, touchedMessage}
 use Rattle.spec_notes.specs.Predicted.{predictedSemaphore}
 use Rattle.spec_notes.specs.Sections.{entriesFrom, threadEntry, semaphoreEntry, eventEntry, eventEntries, messageEntry}
-use Rattle.spec_notes.specs.Sections.{schedulerSection, threadsSection, semaphoresSection, eventsSection, flagsSection, messagesSection}
+use Rattle.spec_notes.specs.Sections.{schedulerSection, threadsSection, semaphoresSection, eventsSection, flagsSection}
+use Rattle.spec_notes.specs.Sections.{messagesSection}
 use Rattle.spec_notes.specs.Notes.{beforeLength, noteOf, leastNote}
 use Rattle.spec_notes.specs.Counts.{mostBytes}
 use Rattle.spec_notes.proofs.RecordsBack.{same-thread, same-semaphore}

@@ -157,4 +157,6 @@ module _ {k : Kernel} (B : Before k) {c : Call} (A : Accepted k c) where
       (λ h. let (f, _) = kept mine (items (k .posted)) (first-member (keep mine (items (k .posted))) (eqb-false m 255 h)) in
       let (_, masked) = and-eq-true-iff (eqb (message k m .owner) (k .runner)) (masks (c .b) (message k m .channel)) .0 f in
       let (queued, _) = and-eq-true-iff (ltb 0 (message k m .channel)) _ .0 masked in
-      rw h (quiet (refl, refl) (refl, refl, refl) (refl, refl) (file-differs m _ 6 (λ z. omega (arith, ltb-true 0 (message k m .channel) queued))) e))
+      rw h
+      (quiet (refl, refl) (refl, refl, refl) (refl, refl)
+      (file-differs m _ 6 (λ z. omega (arith, ltb-true 0 (message k m .channel) queued))) e))

@@ -99,7 +99,8 @@ module _ {k : Kernel} (B : Before k) {c : Call} (A : Accepted k c) where
   unfolding postSemaphore
   post-left o l e =
       let W = post-woke none-woke (c .a) (live-semaphore (B .core) (c .a) l) in
-      quiet o (W .bits, W .uptime, W .flags) (wakes-stay (B .core) c (post (c .a) k) (W .threads)) (posted-stay k c (post (c .a) k) (W .posted)) e
+      quiet o (W .bits, W .uptime, W .flags) (wakes-stay (B .core) c (post (c .a) k) (W .threads))
+      (posted-stay k c (post (c .a) k) (W .posted)) e
 
   pub kind-19 : c .kind ≡ 19 → Left k c (postSemaphore k c)
   kind-19 e = post-left (refl, refl) (semaphore-named A e refl) e

@@ -41,7 +41,8 @@ use Rattle.proof_rules.proofs.OfDestroy.{freed-record}
 use Rattle.proof_rules.proofs.Wakings.{outs-last, line-lasts, passes-record}
 use Rattle.spec_notes.specs.Within.{Within, CallWithin}
 use Rattle.spec_notes.proofs.Limits.{SmallThread, Limits, within-limits, limits-within, threads-limits, posts-limits}
-use Rattle.spec_notes.proofs.Limits.{semaphore-limits, events-limits, flags-limits, event-all, scheduler-limits, place-limits, file-limits}
+use Rattle.spec_notes.proofs.Limits.{semaphore-limits, events-limits, flags-limits, event-all, scheduler-limits, place-limits}
+use Rattle.spec_notes.proofs.Limits.{file-limits}
 
 -- ---- steps
 module _ {k : Kernel} (L : Limits k) where
@@ -132,8 +133,8 @@ module _ {k : Kernel} (L : Limits k) where
     unfolding postFlag
     post-flag-limits B A e =
         let (b, _) = live-flag k (c .a) (flag-named A e refl) in
-        threads-limits L _ (λ t. line-lasts SmallThread (λ _ _ _. omega arith) (B .core .standing) (home ofFlags (c .a)) (λ z. omega arith) t
-        (L .threads t))
+        threads-limits L _
+        (λ t. line-lasts SmallThread (λ _ _ _. omega arith) (B .core .standing) (home ofFlags (c .a)) (λ z. omega arith) t (L .threads t))
 
     effect-limits : Before k → Accepted k c → Limits (effect k c)
     unfolding createThread destroyThread setPriority resetPriority yielded sleep pushUnscheduled popUnscheduled popAllUnscheduled

@@ -1,4 +1,5 @@
 pub mod Applies
+pub mod FlagPends
 pub mod LawsOfValues
 pub mod TableOrder
 pub mod Waiters

@@ -37,7 +37,8 @@ pub record Sized (k : Kernel) : Type 0 where
 unfoldable pub ReadyPlaces : Kernel → Type 0
 ReadyPlaces k = (t p : ℕ) → p ≤ priorityCount → count t (readyList k p) ≡ one (isReady (thread k t) && eqb (thread k t .priority) p)
 
--- Who waits for a semaphore, event or flag stands once in its queue, and nobody else does; what is waited for is live [01, state 1.3; 02 §1].
+-- Who waits for a semaphore, event or flag stands once in its queue, and nobody else does; what is waited for is live [01, state 1.3;
+-- 02 §1].
 unfoldable pub WaitingPlaces : Kernel → Type 0
 WaitingPlaces k = (class : Class) (t i : ℕ) → i < idsIn class → count t (queueOf class k i) ≡ one (waitsFor class i (thread k t))
 

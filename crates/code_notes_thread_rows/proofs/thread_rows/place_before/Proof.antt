@@ -1,5 +1,5 @@
--- `code_notes_thread_rows::thread_rows::place_before` meets its contract: the post of a flag comes first, and then each code of a thread that
--- stood in a list has its arm.
+-- `code_notes_thread_rows::thread_rows::place_before` meets its contract: the post of a flag comes first; then each code of a thread
+-- that stood in a list has its arm.
 use borrow.Author.Tests.{eq-eqb, ne-eqb}
 use Rattle.code_notes_thread_rows.proofs.thread_rows.place_before.Statement.{statement}
 use Rattle.code_notes_thread_rows.proofs.thread_rows.place_before.Tie as tie
