@@ -1,1 +1,1 @@
-// What each of the thirty kinds does and gives, one row a kind; and the laws of the rows.
+// What each kind does and gives, one row a kind; and the laws of the rows.

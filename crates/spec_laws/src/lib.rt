@@ -1,1 +1,1 @@
-// What each of the thirty kinds must do, said of the state before and the state after: no definition of an effect is used.
+// What each kind must do, said of the state before and the state after: no definition of an effect is used.
