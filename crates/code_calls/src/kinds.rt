@@ -3,62 +3,51 @@ ghost use mathlib.Core.Path.{_≡_};
 ghost use Rattle.spec_calls.specs.Kinds.{kindOf, names, idNamed};
 use spec_calls::call::Call;
 use spec_calls::kinds::A;
-use spec_calls::kinds::ALL;
 use spec_calls::kinds::B;
-use spec_calls::kinds::BIT;
-use spec_calls::kinds::INTERRUPT;
 use spec_calls::kinds::Kind;
 use spec_calls::kinds::LAST_KIND;
-use spec_calls::kinds::NEW;
-use spec_calls::kinds::NOBODY;
-use spec_calls::kinds::RUNNER;
-use spec_calls::kinds::TAKEN;
-use spec_calls::kinds::THREAD;
-use spec_calls::kinds::THREAD_OR_BOOT;
-use spec_calls::kinds::WAITER;
 
 const ROWS: usize = LAST_KIND as usize + 1;
 
-// A row, so short that it is one line: the fields of `Kind` in their order.
-pub struct Row(pub u8, pub u8, pub u8, pub u8, pub u8, pub u8, pub u8);
-
-// The used fields of a row: a is 1, b is 2, c is 4, d is 8. Behind it stands the line of text that `records` reads for its kind.
-const KINDS: [Row; ROWS] = [
-    Row(THREAD, 0, NOBODY, NOBODY, NOBODY, NOBODY, NOBODY), // no kind
-    Row(INTERRUPT, 0, ALL, ALL, NOBODY, NOBODY, NOBODY), // 1: tick
-    Row(THREAD_OR_BOOT, 1, NEW, NOBODY, NOBODY, NOBODY, NOBODY), // 2: create thread A
-    Row(THREAD, 1, A, NOBODY, NOBODY, ALL, NOBODY), // 3: destroy thread A
-    Row(THREAD, 3, A, NOBODY, NOBODY, NOBODY, NOBODY), // 4: set priority of A to B
-    Row(THREAD, 1, A, NOBODY, NOBODY, NOBODY, NOBODY), // 5: reset priority of A
-    Row(THREAD, 0, RUNNER, NOBODY, NOBODY, NOBODY, NOBODY), // 6: yield
-    Row(THREAD, 4, RUNNER, NOBODY, NOBODY, NOBODY, NOBODY), // 7: sleep C
-    Row(THREAD, 0, NOBODY, NOBODY, NOBODY, NOBODY, NOBODY), // 8: push unscheduled
-    Row(THREAD, 0, NOBODY, NOBODY, NOBODY, NOBODY, NOBODY), // 9: pop unscheduled
-    Row(THREAD, 0, NOBODY, NOBODY, NOBODY, NOBODY, NOBODY), // 10: pop all unscheduled
-    Row(THREAD, 0, NOBODY, NOBODY, NOBODY, NOBODY, NOBODY), // 11: push critical
-    Row(THREAD, 0, NOBODY, NOBODY, NOBODY, NOBODY, NOBODY), // 12: pop critical
-    Row(THREAD, 0, NOBODY, NOBODY, NOBODY, NOBODY, NOBODY), // 13: pop all critical
-    Row(THREAD_OR_BOOT, 6, NOBODY, NEW, NOBODY, NOBODY, NOBODY), // 14: create semaphore count B maximum C
-    Row(THREAD, 1, WAITER, A, NOBODY, NOBODY, NOBODY), // 15: destroy semaphore A
-    Row(THREAD, 13, NOBODY, A, NOBODY, NOBODY, NOBODY), // 16: make semaphore A periodic delay C period D
-    Row(THREAD, 1, NOBODY, A, NOBODY, NOBODY, NOBODY), // 17: remove periodic A
-    Row(THREAD, 5, RUNNER, A, NOBODY, NOBODY, NOBODY), // 18: pend semaphore A ? timeout C
-    Row(THREAD, 1, WAITER, A, NOBODY, NOBODY, NOBODY), // 19: post semaphore A
-    Row(THREAD_OR_BOOT, 15, ALL, NOBODY, A, NOBODY, NOBODY), // 20: load event A mode B mask C values D
-    Row(THREAD, 5, RUNNER, NOBODY, A, NOBODY, NOBODY), // 21: pend event A ? timeout C
-    Row(THREAD, 1, ALL, NOBODY, BIT, NOBODY, NOBODY), // 22: set bit A
-    Row(THREAD, 1, ALL, NOBODY, BIT, NOBODY, NOBODY), // 23: clear bit A
-    Row(THREAD, 14, NOBODY, NOBODY, NOBODY, NEW, NOBODY), // 24: create message type B size C address D
-    Row(THREAD, 1, NOBODY, NOBODY, NOBODY, A, NOBODY), // 25: destroy message A
-    Row(THREAD, 7, B, NOBODY, NOBODY, A, NOBODY), // 26: post message A to thread B channel C
-    Row(THREAD, 6, RUNNER, NOBODY, NOBODY, TAKEN, NOBODY), // 27: pend message mask B ? timeout C
-    Row(INTERRUPT, 1, WAITER, A, NOBODY, NOBODY, NOBODY), // 28: interrupt post semaphore A
-    Row(INTERRUPT, 1, ALL, NOBODY, BIT, NOBODY, NOBODY), // 29: interrupt set bit A
-    Row(INTERRUPT, 1, ALL, NOBODY, BIT, NOBODY, NOBODY), // 30: interrupt clear bit A
-    Row(THREAD, 0, NOBODY, NOBODY, NOBODY, NOBODY, NEW), // 31: create flag
-    Row(THREAD, 1, WAITER, NOBODY, NOBODY, NOBODY, A), // 32: destroy flag A
-    Row(THREAD, 5, RUNNER, NOBODY, NOBODY, NOBODY, A), // 33: pend flag A ? timeout C
-    Row(THREAD, 1, ALL, NOBODY, NOBODY, NOBODY, A), // 34: post flag A
+// A row has a digit for each field of `Kind`, in their order: caller, used fields (a is 1, b is 2, c is 4, d is 8), thread, semaphore,
+// event, message, flag; the numbers are those of `spec_calls::kinds`. So a row is four bytes: each look at the table copies all of it.
+// Behind a row stands the line of text that `records` reads for its kind.
+const KINDS: [u32; ROWS] = [
+    0x0000000, // no kind
+    0x2088000, // 1: tick
+    0x1150000, // 2: create thread A
+    0x0110080, // 3: destroy thread A
+    0x0310000, // 4: set priority of A to B
+    0x0110000, // 5: reset priority of A
+    0x0030000, // 6: yield
+    0x0430000, // 7: sleep C
+    0x0000000, // 8: push unscheduled
+    0x0000000, // 9: pop unscheduled
+    0x0000000, // 10: pop all unscheduled
+    0x0000000, // 11: push critical
+    0x0000000, // 12: pop critical
+    0x0000000, // 13: pop all critical
+    0x1605000, // 14: create semaphore count B maximum C
+    0x0141000, // 15: destroy semaphore A
+    0x0d01000, // 16: make semaphore A periodic delay C period D
+    0x0101000, // 17: remove periodic A
+    0x0531000, // 18: pend semaphore A ? timeout C
+    0x0141000, // 19: post semaphore A
+    0x1f80100, // 20: load event A mode B mask C values D
+    0x0530100, // 21: pend event A ? timeout C
+    0x0180700, // 22: set bit A
+    0x0180700, // 23: clear bit A
+    0x0e00050, // 24: create message type B size C address D
+    0x0100010, // 25: destroy message A
+    0x0720010, // 26: post message A to thread B channel C
+    0x0630060, // 27: pend message mask B ? timeout C
+    0x2141000, // 28: interrupt post semaphore A
+    0x2180700, // 29: interrupt set bit A
+    0x2180700, // 30: interrupt clear bit A
+    0x0000005, // 31: create flag
+    0x0140001, // 32: destroy flag A
+    0x0530001, // 33: pend flag A ? timeout C
+    0x0180001, // 34: post flag A
 ];
 
 // The row of the call's kind; what is no kind has the first.
@@ -71,13 +60,13 @@ pub fn kind_of(c: Call) -> Kind
     }
     let r = KINDS[i];
     Kind {
-        caller: r.0,
-        used: r.1,
-        thread: r.2,
-        semaphore: r.3,
-        event: r.4,
-        message: r.5,
-        flag: r.6,
+        caller: ((r >> 24) % 16) as u8,
+        used: ((r >> 20) % 16) as u8,
+        thread: ((r >> 16) % 16) as u8,
+        semaphore: ((r >> 12) % 16) as u8,
+        event: ((r >> 8) % 16) as u8,
+        message: ((r >> 4) % 16) as u8,
+        flag: (r % 16) as u8,
     }
 }
 

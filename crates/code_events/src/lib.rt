@@ -1,10 +1,17 @@
 // Events and event bits: load, pend, set and clear.
+ghost use Prim.Native.Nat.{_<_};
 ghost use mathlib.Core.Path.{_≡_};
+ghost use mathlib.Core.Bool.{not, _&&_};
+ghost use Rattle.base_queue.specs.Lists.{isEmpty};
 ghost use Rattle.spec_kernel.specs.Sizes.{eventCount};
+ghost use Rattle.spec_kernel.specs.Places.{nowhere};
+ghost use Rattle.spec_kernel.specs.Truth.{isTrue};
 ghost use Rattle.spec_events.specs.Events.{workOutFrom, workedOut, loadEvent, pendEvent};
+ghost use Rattle.spec_moves.specs.Standing.{atHomeIn};
 ghost use Rattle.code_events.specs.Signals.{signalled};
 use code_kernel::places;
 use code_kernel_find::by_id;
+use code_kernel_find::firsts;
 use code_moves::states;
 use spec_calls::call::Call;
 use spec_kernel::records::Condition;
@@ -12,6 +19,19 @@ use spec_kernel::records::Event;
 use spec_kernel::records::Kernel;
 use spec_kernel::sizes;
 use spec_moves::parts::Threads;
+
+// Whether the event of home h is TRUE and anybody waits for it: without that, waking its queue would only copy the threads.
+fn wakes(p: Threads, h: u16, bits: u32, e: Event) -> bool
+    requires { ⌜ h < nowhere ⌝ }
+    ensures { λ r. ⌜ r ≡ (isTrue bits e && not (isEmpty (atHomeIn p h))) ⌝ }
+{
+    if !code_kernel::truth::is_true(bits, e) {
+        return false;
+    }
+    let records = p.records;
+    let queue = p.places;
+    firsts::first_at_home(records, queue, h) != 255
+}
 
 // Each TRUE event wakes all its waiters, in id order.
 fn worked_in(p: Threads, events: [Event; sizes::EVENTS], bits: u32) -> Threads
@@ -23,7 +43,7 @@ fn worked_in(p: Threads, events: [Event; sizes::EVENTS], bits: u32) -> Threads
         let e = events[i];
         let h = places::OF_EVENTS + (i as u16);
         i += 1;
-        if code_kernel::truth::is_true(bits, e) {
+        if wakes(next, h, bits, e) {
             next = code_threads::woken_in(next, h);
         }
     }

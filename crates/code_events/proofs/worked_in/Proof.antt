@@ -34,8 +34,8 @@ add-h c = search needs
 add-i : tie.Need-add-i Inv-loop μ-loop
 add-i c = search needs
 
-is-true-requires : tie.Need-is-true-requires Inv-loop μ-loop
-is-true-requires c κs = search needs
+wakes-requires : tie.Need-wakes-requires Inv-loop μ-loop
+wakes-requires c κs = omega arith
 
 woken-in-requires : tie.Need-woken-in-requires Inv-loop μ-loop
 woken-in-requires c κs = search needs
@@ -48,7 +48,7 @@ loop-again c =
     let l = c .before .before .before .before .before .loop in (
       omega arith,
       rw (c .woken-in .ensures)
-          (work-true _ _ (l .i) _ (l .inv .1) (sym (c .before .before .is-true .ensures) ∙ c .before .if1 .taken)),
+          (work-true _ _ (l .i) _ (l .inv .1) (sym (c .before .before .wakes .ensures) ∙ c .before .if1 .taken)),
     )
 
 loop-less-2 : tie.Need-loop-less-2 Inv-loop μ-loop
@@ -57,7 +57,7 @@ loop-less-2 c = search needs
 loop-again-2 : tie.Need-loop-again-2 Inv-loop μ-loop
 loop-again-2 c =
     let l = c .before .before .before .before .loop in
-    (omega arith, work-false _ _ (l .i) _ (l .inv .1) (sym (c .before .is-true .ensures) ∙ c .if1 .left))
+    (omega arith, work-false _ _ (l .i) _ (l .inv .1) (sym (c .before .wakes .ensures) ∙ c .if1 .left))
 
 returns : tie.Need-returns Inv-loop μ-loop
 returns c =
@@ -77,7 +77,7 @@ worked-in-spec =
     cast-h
     add-h
     add-i
-    is-true-requires
+    wakes-requires
     woken-in-requires
     loop-less
     loop-again

@@ -1,6 +1,6 @@
 -- `code_calls::kinds::kind_of` meets its contract: the code's table is the definition's.
-use Prim.Native.Nat.{suc, _<_}
-use mathlib.Core.Path.{_≡_, refl, ap, _∙_}
+use Prim.Native.Nat.{ℕ, suc, _+_, _*_, _/_, _%_, _<_}
+use mathlib.Core.Path.{_≡_, refl, sym, ap, _∙_}
 use mathlib.Core.Logic.{⊎-elim}
 use native.Mathlib.Omega.{arith}
 use lib.ListN.{getD, List·getD-map}
@@ -8,7 +8,6 @@ use borrow.Author.Needs.{needs}
 use Rattle.spec_moves.proofs.Joins.{past-end}
 use Rattle.spec_calls.specs.declared.kinds.Kind.{Kind}
 use Rattle.spec_calls.specs.Kinds.{row, noKind, kinds, kindOf, lastKind}
-use Rattle.code_calls.specs.declared.kinds.Row.{Row}
 use Rattle.code_calls.proofs.kinds.kind_of.Statement.{statement}
 use Rattle.code_calls.proofs.kinds.kind_of.Tie as tie
 
@@ -22,22 +21,52 @@ inside c = ⊎-elim (λ w. omega arith) (λ w. omega arith) (c .if1 .came)
 mul-r : tie.Need-mul-r
 mul-r c = let b = inside (c .before) in record { fits = omega (arith, b) }
 
-array-copy-out-r : tie.Need-array-copy-out-r
-array-copy-out-r c = inside (c .before)
+array-read-r : tie.Need-array-read-r
+array-read-r c = inside (c .before)
 
 -- and that of the kind
 of-kind : (c : tie.Joined1) → getD kinds (c .if1 .i) noKind ≡ kindOf (c .before .before .args .c)
 unfolding kindOf
 of-kind c = ⊎-elim (λ w. rw (past-end kinds noKind refl (w .0 .taken), w .1)) (λ w. rw (w .1)) (c .if1 .came)
 
-abbrev toRow : Kind → Row
-toRow k = record { 0 = k .caller; 1 = k .used; 2 = k .thread; 3 = k .semaphore; 4 = k .event; 5 = k .message; 6 = k .flag }
+-- a row as one number, and back
+abbrev packed : Kind → ℕ
+packed k =
+    16777216 * k .caller + 1048576 * k .used + 65536 * k .thread + 4096 * k .semaphore + 256 * k .event + 16 * k .message + k .flag
 
-abbrev toKind : Row → Kind
-toKind r = row (r .0) (r .1) (r .2) (r .3) (r .4) (r .5) (r .6)
+abbrev unpacked : ℕ → Kind
+unpacked n =
+    row (n / 16777216 % 16) (n / 1048576 % 16) (n / 65536 % 16) (n / 4096 % 16) (n / 256 % 16) (n / 16 % 16) (n % 16)
+
+cast-t11 : tie.Need-cast-t11
+cast-t11 c = search needs
+
+cast-t14 : tie.Need-cast-t14
+cast-t14 c = search needs
+
+cast-t17 : tie.Need-cast-t17
+cast-t17 c = search needs
+
+cast-t20 : tie.Need-cast-t20
+cast-t20 c = search needs
+
+cast-t23 : tie.Need-cast-t23
+cast-t23 c = search needs
+
+cast-t26 : tie.Need-cast-t26
+cast-t26 c = search needs
+
+cast-t28 : tie.Need-cast-t28
+cast-t28 c = search needs
 
 returns : tie.Need-returns
-returns c = ap toKind (List·getD-map toRow kinds (c .before .before .if1 .i) noKind) ∙ of-kind (c .before .before)
+returns c =
+    let i = c .before .if1 .i in
+    ap unpacked (List·getD-map packed kinds i noKind)
+    ∙ sym (List·getD-map (λ k. unpacked (packed k)) kinds i noKind)
+    ∙ of-kind (c .before)
 
 pub kind-of-spec : {M : Type 1} → statement M
-kind-of-spec = tie.close (tie.spec cast-i mul-r array-copy-out-r returns)
+kind-of-spec =
+    tie.close
+    (tie.spec cast-i mul-r array-read-r cast-t11 cast-t14 cast-t17 cast-t20 cast-t23 cast-t26 cast-t28 returns)
