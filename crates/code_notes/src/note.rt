@@ -35,16 +35,16 @@ use spec_moves::parts::Threads;
 // The most bytes of each section.
 const LEVEL_BYTES: usize = scheduler_rows::LONGEST;
 
-const THREAD_BYTES: usize = sizes::THREADS * thread_rows::LONGEST;
+pub const THREAD_BYTES: usize = sizes::THREADS * thread_rows::LONGEST;
 
-const SEMAPHORE_BYTES: usize = sizes::SEMAPHORES * semaphore_rows::LONGEST;
+pub const SEMAPHORE_BYTES: usize = sizes::SEMAPHORES * semaphore_rows::LONGEST;
 
 // One of them for the bits.
 const EVENT_BYTES: usize = 1 + sizes::EVENTS * event_rows::LONGEST;
 
 const FLAG_BYTES: usize = flag_notes::LONGEST;
 
-const MESSAGE_BYTES: usize = sizes::MESSAGES * message_rows::LONGEST;
+pub const MESSAGE_BYTES: usize = sizes::MESSAGES * message_rows::LONGEST;
 
 // No note is longer.
 pub const MOST: usize = LEAST
@@ -56,7 +56,7 @@ pub const MOST: usize = LEAST
     + MESSAGE_BYTES;
 
 // Two bytes of length, then the bytes.
-fn put_section(log: &mut [u8], at: usize, part: &[u8]) -> usize
+pub fn put_section(log: &mut [u8], at: usize, part: &[u8]) -> usize
     ensures { λ r. ⌜ pen (now (log .exit)) r ≡ puts (pen (now (log .entry)) at) (section (now (part .entry))) ⌝ }
 {
     let p = pens::put_number(log, at, 2, (part.len() % 65536) as u32);

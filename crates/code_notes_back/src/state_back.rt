@@ -53,7 +53,7 @@ fn earlier(c: Call, uptime: u32) -> u32
 }
 
 // The part that threads move in.
-fn threads_back(c: Call, p: Threads, s: &[u8]) -> Threads
+pub fn threads_back(c: Call, p: Threads, s: &[u8]) -> Threads
     ensures { λ x. ⌜ x ≡ threadsBack c p (now (s .entry)) ⌝ }
 {
     let new = p.records;
@@ -72,7 +72,7 @@ fn threads_back(c: Call, p: Threads, s: &[u8]) -> Threads
 }
 
 // The part that messages move in.
-fn posts_back(c: Call, runner: u8, p: Posts, s: &[u8]) -> Posts
+pub fn posts_back(c: Call, runner: u8, p: Posts, s: &[u8]) -> Posts
     ensures { λ x. ⌜ x ≡ postsBack c runner p (now (s .entry)) ⌝ }
 {
     let new = p.records;

@@ -44,10 +44,10 @@ use Rattle.spec_notes.proofs.FramesRead.{frames-back, note-sizes}
 use Rattle.spec_notes.proofs.Yields.{yields-call, yields-back}
 
 -- ---- the bytes of the sections
-abbrev SmallSections : List (List ℕ) → Type 0
+abbrev pub SmallSections : List (List ℕ) → Type 0
 SmallSections x = (i : ℕ) → Bytes (getD x i [])
 
-sections-bytes : (n : ℕ) (s : List ℕ) → Bytes s → SmallSections (sectionsAt n s)
+pub sections-bytes : (n : ℕ) (s : List ℕ) → Bytes s → SmallSections (sectionsAt n s)
 unfolding sectionsAt firstSection behindSection
 sections-bytes zero s h i = λ j. omega arith
 sections-bytes (suc n) s h zero = take-bytes (un 2 s) (drop 2 s) (drop-bytes 2 s h)

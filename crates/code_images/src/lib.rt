@@ -1,0 +1,3 @@
+// A stored state: its image, written and read.
+pub mod reading;
+pub mod writing;
