@@ -148,6 +148,13 @@ module _ (k : Kernel) (bytes log : List ℕ) (used : ℕ) where
       (λ _ _ b _. let h = leb-true (used + length note) (length log) b in (h, refl, with-length log used note h, refl))
       (λ _ _ _ z. absurd (omega arith)) (λ _ n z. absurd (n z)) (λ _ z. absurd (omega arith))
 
+  -- nor is 16, which belongs to images
+  pub never-16 : given .answer .number ≡ 16 → ⊥
+  unfolding numberOf
+  never-16 =
+      one-of-four (λ x _ _ _. x .answer .number ≡ 16 → ⊥) (λ _ _ _ z. omega arith) (λ _ _ _ z. omega arith)
+      (λ _ _. lacks-first 16 (refusals k (callOf bytes)) refl (λ z. omega arith)) (λ _ z. omega arith)
+
   -- ---- with what the types give
   module _ (T : OfTypes k) where
     tested-exactly : TestedExactly k

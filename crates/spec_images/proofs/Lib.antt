@@ -1,1 +1,8 @@
 pub mod Nothing
+pub mod Lengths
+pub mod ImagesBack
+pub mod AnyImage
+pub mod Reading
+pub mod Front
+pub mod Writing
+pub mod OnImages

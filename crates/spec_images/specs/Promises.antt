@@ -53,7 +53,7 @@ pub record StoredAway (k : Kernel) (lent : List ℕ) (r : Written) (lent′ : Li
 
 -- ---- Reading any bytes: r comes back.
 -- they are the image of this state, which keeps the rules
-unfoldable pub IsImageOf : List ℕ → Kernel → Type 0
+abbrev pub IsImageOf : List ℕ → Kernel → Type 0
 IsImageOf s k = Undamaged k × (imageOf k ≡ s)
 
 -- An image is accepted exactly if it is the one for some state that keeps the rules.
@@ -76,7 +76,7 @@ pub record ReadBack (s : List ℕ) (r : Recalled) : Type 0 where
 
 -- ---- A call and an undo on an image, which is the first n of the lent bytes.
 -- that image is there, and is this state's
-unfoldable pub Holds : List ℕ → ℕ → Kernel → Type 0
+abbrev pub Holds : List ℕ → ℕ → Kernel → Type 0
 Holds lent n k = (n ≤ length lent) × IsImageOf (take n lent) k
 
 -- 16 exactly where there is none, a length beyond the lent bytes too: value and runner 255, and nothing changes.
