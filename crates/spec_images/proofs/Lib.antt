@@ -6,3 +6,4 @@ pub mod Reading
 pub mod Front
 pub mod Writing
 pub mod OnImages
+pub mod ForC

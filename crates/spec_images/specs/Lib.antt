@@ -1,3 +1,4 @@
 pub mod Images
 pub mod OnImages
 pub mod Promises
+pub mod ForC

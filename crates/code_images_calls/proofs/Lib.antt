@@ -1,0 +1,2 @@
+pub mod OnStates
+pub mod Found
