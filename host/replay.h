@@ -14,13 +14,33 @@
  * fit is refused with 13. docs/LAYOUT.md has the bytes of images, notes and records; nobody needs it in order to call.
  *
  * What holds for every call
- *   Any bytes and any lengths may be passed, damaged ones too: each call is answered.
- *   No pointer may be NULL, even where the length beside it is 0. Of image, log, record, *length and *used no two may
- *   overlap.
+ *   So many bytes as room, record_length and log_room say must be there. No pointer may be NULL, even beside a 0. Of
+ *   image, log, record, *length and *used no two may overlap.
+ *   The bytes may be any, and *length and *used any numbers, damaged ones too: each call is answered.
  *   A refusal (a number other than 0) changes nothing: no byte at image or log, neither *length nor *used.
  *   An accepted call writes only what is said at its function. Every other lent byte is as it was, those behind the new
  *   image and behind the notes too.
  *   No function keeps a pointer, allocates or prints.
+ *
+ * The kinds of call; a field that a kind doesn't use must be 0, and a timeout of 0 waits for ever
+ *    1  tick                                          18  pend on semaphore a, timeout c
+ *    2  create a thread of priority a                 19  post semaphore a
+ *    3  destroy thread a                              20  load event a: mode b (0 all, 1 any), mask c, values d
+ *    4  set the priority of thread a to b             21  pend on event a, timeout c
+ *    5  reset the priority of thread a                22  set event bit a
+ *    6  yield                                         23  clear event bit a
+ *    7  sleep c ticks                                 24  create a message: type b, size c, address d
+ *    8  push the unscheduled level                    25  destroy message a
+ *    9  pop it                                        26  post message a to thread b on channel c
+ *   10  pop it to 0                                   27  pend on messages, channel mask b, timeout c
+ *   11  push the critical level                       28  interrupt: post semaphore a
+ *   12  pop it                                        29  interrupt: set event bit a
+ *   13  pop it to 0                                   30  interrupt: clear event bit a
+ *   14  create a semaphore: count b, maximum c        31  create a device flag
+ *   15  destroy semaphore a                           32  destroy device flag a
+ *   16  make semaphore a periodic: delay c, period d  33  pend on device flag a, timeout c
+ *   17  make semaphore a not periodic                 34  post device flag a
+ * Kinds 1, 28, 29 and 30 come from interrupts, all others from the running thread; 2, 14 and 20 also while none runs.
  *
  * An answer is one number of 32 bits, taken apart by the three functions at the end of this file
  *   number   0: accepted; else why it was refused, by the table below
