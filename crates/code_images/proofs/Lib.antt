@@ -1,0 +1,2 @@
+pub mod ImageShort
+pub mod StoredParts
