@@ -1,6 +1,7 @@
 // A state, read from any bytes: the one whose image they are, or nothing.
 ghost use mathlib.Core.Path.{_≡_};
 ghost use lib.ListN.{drop};
+ghost use Rattle.base_bytes.specs.Bytes.{un};
 ghost use Rattle.spec_images.specs.Images.{stateIn, recalled, readFrom};
 ghost use Rattle.spec_kernel.specs.Records.{fresh};
 use crate::writing::LONGEST;
@@ -29,6 +30,13 @@ fn behind(s: &[u8], n: usize) -> &[u8]
         return &s[s.len()..];
     }
     &s[n..]
+}
+
+// The flags that a section tells, in its first two bytes.
+fn flags_in(s: &[u8]) -> u16
+    ensures { λ r. ⌜ r ≡ un 2 (now (s .entry)) ⌝ }
+{
+    number_at(s, 0, 2) as u16
 }
 
 // The state that the sections tell, whatever they hold.
@@ -72,7 +80,7 @@ pub fn state_in(s: &[u8]) -> Kernel
         unscheduled: byte_at(scheduler, 4),
         critical: byte_at(scheduler, 5),
         runner: byte_at(scheduler, 6),
-        flags: number_at(section_of(all, frames::FLAGS_AT), 0, 2) as u16,
+        flags: flags_in(section_of(all, frames::FLAGS_AT)),
     }
 }
 

@@ -1,0 +1,5 @@
+pub mod ImageShort
+pub mod StoredParts
+pub mod ImageWritten
+pub mod ImageRead
+pub mod Compared
