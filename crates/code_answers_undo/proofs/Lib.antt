@@ -1,4 +1,3 @@
 pub mod Again
-pub mod Compared
 pub mod Turns
 pub mod Sections

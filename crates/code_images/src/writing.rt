@@ -1,5 +1,6 @@
 // The image of a state: the edition, and six sections each behind its length. Entries are those of a note, told against nothing.
 ghost use mathlib.Core.Path.{_≡_};
+ghost use Rattle.base_bytes.specs.Logs.{noted, ends};
 ghost use Rattle.base_bytes.specs.Pens.{pen, puts};
 ghost use Rattle.spec_moves.specs.Standing.{threadsOf, postsOf};
 ghost use Rattle.spec_notes.specs.Notes.{section};
@@ -170,7 +171,16 @@ pub fn put_image(room: &mut [u8], k: Kernel) -> usize
     put_message_part(room, fifth, k)
 }
 
-// A state written into lent room, whole or not at all: 14 for one that breaks a rule, 13 where its image has no room.
+// The image written into lent room whole, and its length; or, where it has no room, nothing, and 0.
+pub fn put_whole(k: Kernel, room: &mut [u8]) -> usize
+    ensures { λ r. ⌜ (r ≡ ends (now (room .entry)) 0 (imageOf k)) × (now (room .exit) ≡ noted (now (room .entry)) 0 (imageOf k)) ⌝ }
+{
+    let mut scratch = [0u8; LONGEST];
+    let n = put_image(&mut scratch, k);
+    logs::write(room, 0, &scratch[..n])
+}
+
+// A state written into lent room: 14 for one that breaks a rule, 13 where its image has no room.
 pub fn write(k: Kernel, room: &mut [u8]) -> Written
     ensures { λ r. ⌜ (r ≡ storedIn k (now (room .entry))) × (now (room .exit) ≡ lentThen k (now (room .entry))) ⌝ }
 {
@@ -180,10 +190,8 @@ pub fn write(k: Kernel, room: &mut [u8]) -> Written
             length: 0,
         };
     }
-    let mut scratch = [0u8; LONGEST];
-    let n = put_image(&mut scratch, k);
-    let end = logs::write(room, 0, &scratch[..n]);
-    if end == 0 {
+    let n = put_whole(k, room);
+    if n == 0 {
         return Written {
             number: 13,
             length: 0,
@@ -191,6 +199,6 @@ pub fn write(k: Kernel, room: &mut [u8]) -> Written
     }
     Written {
         number: 0,
-        length: end,
+        length: n,
     }
 }

@@ -30,19 +30,28 @@ fn left(answer: Answer, length: usize, used: usize) -> Stored
     }
 }
 
-// A refusal that no state decides: 16 where there is no image, 13 where a new one has no room.
-fn refused(number: u8, runner: u8, length: usize, used: usize) -> Stored
-    ensures { λ r. ⌜ r ≡ stored (answer number 255 runner) length used ⌝ }
+// 16: there is no image.
+fn damaged(length: usize, used: usize) -> Stored
+    ensures { λ r. ⌜ r ≡ damaged length used ⌝ }
 {
-    left(
-        Answer {
-            number: number,
-            value: 255,
-            runner: runner,
-        },
-        length,
-        used,
-    )
+    let none = Answer {
+        number: 16,
+        value: 255,
+        runner: 255,
+    };
+    left(none, length, used)
+}
+
+// 13: a note or a new image has no room.
+fn no_room(runner: u8, length: usize, used: usize) -> Stored
+    ensures { λ r. ⌜ r ≡ stored (answer 13 255 runner) length used ⌝ }
+{
+    let none = Answer {
+        number: 13,
+        value: 255,
+        runner: runner,
+    };
+    left(none, length, used)
 }
 
 // Whether so many bytes fit behind the used part of a log.
@@ -76,12 +85,12 @@ fn call_on_state(
     }
     let size = l.used;
     if !has_room(log, used, size) {
-        return refused(13, k.runner, length, used);
+        return no_room(k.runner, length, used);
     }
     let next = l.kernel;
     let n = writing::put_whole(next, room);
     if n == 0 {
-        return refused(13, k.runner, length, used);
+        return no_room(k.runner, length, used);
     }
     let end = logs::write(log, used, &note[..size]);
     left(l.answer, n, end)
@@ -100,11 +109,11 @@ pub fn called_on(
         × (now (log .exit) ≡ logCalledOn (now (room .entry)) length bytes (now (log .entry)) used) ⌝ }
 {
     if room.len() < length {
-        return refused(16, 255, length, used);
+        return damaged(length, used);
     }
     let old = reading::read(&room[..length]);
     if old.number != 0 {
-        return refused(16, 255, length, used);
+        return damaged(length, used);
     }
     let k = old.kernel;
     call_on_state(k, room, length, bytes, log, used)
@@ -122,7 +131,7 @@ fn undo_on_state(k: Kernel, room: &mut [u8], length: usize, log: &[u8], used: us
     let before = l.kernel;
     let n = writing::put_whole(before, room);
     if n == 0 {
-        return refused(13, k.runner, length, used);
+        return no_room(k.runner, length, used);
     }
     left(l.answer, n, l.used)
 }
@@ -133,11 +142,11 @@ pub fn undo_on(room: &mut [u8], length: usize, log: &[u8], used: usize) -> Store
         × (now (room .exit) ≡ lentUndone (now (room .entry)) length (now (log .entry)) used) ⌝ }
 {
     if room.len() < length {
-        return refused(16, 255, length, used);
+        return damaged(length, used);
     }
     let old = reading::read(&room[..length]);
     if old.number != 0 {
-        return refused(16, 255, length, used);
+        return damaged(length, used);
     }
     let k = old.kernel;
     undo_on_state(k, room, length, log, used)

@@ -13,13 +13,13 @@ fn packed(a: Answer) -> u32
 }
 
 // A record that isn't sixteen bytes is of no kind, as sixteen zeros are.
-fn record_or_0(record: &[u8]) -> [u8; 16]
-    ensures { λ r. ⌜ r ≡ recordOr0 (now (record .entry)) ⌝ }
+fn record_or_0(bytes: &[u8]) -> [u8; 16]
+    ensures { λ r. ⌜ r ≡ recordOr0 (now (bytes .entry)) ⌝ }
 {
-    if record.len() != 16 {
+    if bytes.len() != 16 {
         return [0u8; 16];
     }
-    replay::call_bytes(record)
+    replay::call_bytes(bytes)
 }
 
 // The image of the fresh state.
@@ -43,14 +43,14 @@ pub extern "C" fn replay_fresh(image: &mut [u8], length: &mut usize) -> u32
 pub extern "C" fn replay_run(
     image: &mut [u8],
     length: &mut usize,
-    record: &[u8],
+    bytes: &[u8],
     log: &mut [u8],
     used: &mut usize,
 ) -> u32
-    ensures { λ r. ⌜ RunForC (now (image .entry)) (now (length .entry)) (now (record .entry)) (now (log .entry)) (now (used .entry)) r
+    ensures { λ r. ⌜ RunForC (now (image .entry)) (now (length .entry)) (now (bytes .entry)) (now (log .entry)) (now (used .entry)) r
         (now (image .exit)) (now (length .exit)) (now (log .exit)) (now (used .exit)) ⌝ }
 {
-    let s = images::called_on(image, *length, record_or_0(record), log, *used);
+    let s = images::called_on(image, *length, record_or_0(bytes), log, *used);
     *length = s.length;
     *used = s.used;
     packed(s.answer)

@@ -15,8 +15,9 @@ use Rattle.spec_images.specs.Images.{noCall, noThreads, noSemaphores, fr
 use Rattle.spec_images.specs.Images.{semaphoresStored, eventsStored, flagsStored, messagesStored, storedSections, imageOf, longestImage}
 use Rattle.spec_images.specs.Promises.{ImagesAreShort}
 
-section-length : (s : List ℕ) → length (section s) ≡ 2 + length s
-section-length s = simp (length-append, length-le)
+pub flags-below : (flags : ℕ) → length (flagsStored flags) ≡ 2
+unfolding flagsStored
+flags-below flags = length-le 2 flags
 
 module _ (k : Kernel) where
   pub scheduler-below : length (schedulerStored k) ≡ 7
@@ -35,10 +36,6 @@ module _ (k : Kernel) where
   unfolding eventsStored
   events-below = rw (length-append, length-le) (omega (arith, events-run (k .events) freshEvents 0 eventCount))
 
-  pub flags-below : length (flagsStored (k .flags)) ≡ 2
-  unfolding flagsStored
-  flags-below = length-le 2 (k .flags)
-
   pub messages-below : length (messagesStored k) ≤ 17 * messageCount
   unfolding messagesStored
   messages-below = messages-run noCall 255 (postsOf k) (noPosts .records) 0 messageCount
@@ -49,14 +46,14 @@ module _ (k : Kernel) where
       (more {s = threadsStored k} (omega (arith, threads-below))
       (more {s = semaphoresStored k} (omega (arith, semaphores-below))
       (more {s = eventsStored k} (omega (arith, events-below))
-      (more {s = flagsStored (k .flags)} (omega (arith, flags-below))
+      (more {s = flagsStored (k .flags)} (omega (arith, flags-below (k .flags)))
       (more {s = messagesStored k} (omega (arith, messages-below)) none)))))
 
   pub image-short : length (imageOf k) ≤ longestImage
   unfolding imageOf
   image-short =
       simp (length-append, length-le)
-      (omega (arith, scheduler-below, threads-below, semaphores-below, events-below, flags-below, messages-below))
+      (omega (arith, scheduler-below, threads-below, semaphores-below, events-below, flags-below (k .flags), messages-below))
 
 pub images-are-short : ImagesAreShort
 unfolding ImagesAreShort

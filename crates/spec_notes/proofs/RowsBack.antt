@@ -11,23 +11,10 @@ use lib.Seq.{drop-at, drop-drop, drop-append-seam}
 use borrow.Author.Tests.{eqb-true}
 use borrow.Table.Steps.{cases}
 use Rattle.base_bytes.specs.Bytes.{le, un}
+use Rattle.base_bytes.proofs.Numbers.{length-le, drop-le, un-le}
 use Rattle.base_rows.specs.Rows.{flagsOf, bodyOf, usedBy, rowFrom}
 use Rattle.base_rows.specs.Entries.{headOf, tailOf, fieldsFrom, rowIn, ownIn}
 use Rattle.base_rows.proofs.EntriesRead.{flags-back, fields-back}
-
--- ---- a number
-length-le : (w x : ℕ) → length (le w x) ≡ w
-unfolding le
-length-le zero x = refl
-length-le (suc w) x = ap suc (length-le w (x / 256))
-
-drop-le : (w x : ℕ) (r : List ℕ) → drop w (le w x ++ r) ≡ r
-drop-le w x r = drop-at (le w x) r w (length-le w x)
-
-un-le : (w x : ℕ) (r : List ℕ) → x < 256 ^ w → un w (le w x ++ r) ≡ x
-unfolding le un
-un-le zero x r h = omega arith
-un-le (suc w) x r h = let p = pow-suc 256 w in omega (arith, un-le w (x / 256) r (omega arith))
 
 -- ---- a row
 -- widths, the old row and the predicted one: an old field that isn't as predicted fits its width

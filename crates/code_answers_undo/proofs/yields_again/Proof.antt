@@ -17,7 +17,7 @@ use Rattle.spec_notes.specs.Touched.{sameRow}
 use Rattle.spec_answers.specs.Logs.{stateAfter, noteFor}
 use Rattle.code_answers_undo.proofs.Again.{run-refused, run-accepted, run-next, note-stands}
 use Rattle.code_answers_undo.proofs.Again.{again-broken, again-refused, again-other, again-same}
-use Rattle.code_answers_undo.proofs.Compared.{begins-same, other-length}
+use Rattle.spec_notes.proofs.Compared.{begins-same, other-length}
 use Rattle.code_answers_undo.proofs.yields_again.Statement.{statement}
 use Rattle.code_answers_undo.proofs.yields_again.Tie as tie
 

@@ -13,9 +13,9 @@ use Rattle.spec_rules.specs.Tests.{keepsRules}
 use Rattle.spec_notes.specs.Touched.{sameRow}
 use Rattle.code_notes.proofs.ScratchParts.{Held, held-length, held}
 use Rattle.spec_images.specs.Images.{imageOf, longestImage, stateIn, recalled}
-use Rattle.code_images.proofs.ImageShort.{image-short}
+use Rattle.spec_images.proofs.Lengths.{image-short}
 use Rattle.code_images.proofs.ImageRead.{read-broken, read-other, read-same}
-use Rattle.code_images.proofs.Compared.{begins-same, other-length}
+use Rattle.spec_notes.proofs.Compared.{begins-same, other-length}
 use Rattle.code_images.proofs.reading.read.Statement.{statement}
 use Rattle.code_images.proofs.reading.read.Tie as tie
 

@@ -3,7 +3,7 @@
 use borrow.Author.Needs.{needs}
 use Rattle.code_notes.proofs.ScratchParts.{Held, held-length, held}
 use Rattle.spec_images.specs.Images.{eventsStored}
-use Rattle.code_images.proofs.ImageShort.{events-below}
+use Rattle.spec_images.proofs.Lengths.{events-below}
 use Rattle.code_images.proofs.StoredParts.{events-put}
 use Rattle.code_images.proofs.writing.put_event_part.Statement.{statement}
 use Rattle.code_images.proofs.writing.put_event_part.Tie as tie

@@ -4,7 +4,7 @@ use borrow.Author.Needs.{needs}
 use native.Mathlib.Omega.{arith}
 use Rattle.code_notes.proofs.ScratchParts.{Held, held-length, held}
 use Rattle.spec_images.specs.Images.{flagsStored}
-use Rattle.code_images.proofs.ImageShort.{flags-below}
+use Rattle.spec_images.proofs.Lengths.{flags-below}
 use Rattle.code_images.proofs.writing.put_flag_part.Statement.{statement}
 use Rattle.code_images.proofs.writing.put_flag_part.Tie as tie
 

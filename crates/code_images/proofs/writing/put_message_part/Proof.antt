@@ -3,7 +3,7 @@
 use borrow.Author.Needs.{needs}
 use Rattle.code_notes.proofs.ScratchParts.{Held, held-length}
 use Rattle.spec_images.specs.Images.{messagesStored}
-use Rattle.code_images.proofs.ImageShort.{messages-below}
+use Rattle.spec_images.proofs.Lengths.{messages-below}
 use Rattle.code_images.proofs.StoredParts.{held-as, messages-stored}
 use Rattle.code_images.proofs.writing.put_message_part.Statement.{statement}
 use Rattle.code_images.proofs.writing.put_message_part.Tie as tie

@@ -5,7 +5,7 @@ use native.Mathlib.Omega.{arith}
 use Rattle.base_bytes.proofs.Writing.{puts-append}
 use Rattle.code_notes.proofs.ScratchParts.{Held, held-length, held}
 use Rattle.spec_images.specs.Images.{schedulerStored}
-use Rattle.code_images.proofs.ImageShort.{scheduler-below}
+use Rattle.spec_images.proofs.Lengths.{scheduler-below}
 use Rattle.code_images.proofs.writing.put_scheduler_part.Statement.{statement}
 use Rattle.code_images.proofs.writing.put_scheduler_part.Tie as tie
 

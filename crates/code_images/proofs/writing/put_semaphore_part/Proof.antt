@@ -3,7 +3,7 @@
 use borrow.Author.Needs.{needs}
 use Rattle.code_notes.proofs.ScratchParts.{Held, held-length}
 use Rattle.spec_images.specs.Images.{semaphoresStored}
-use Rattle.code_images.proofs.ImageShort.{semaphores-below}
+use Rattle.spec_images.proofs.Lengths.{semaphores-below}
 use Rattle.code_images.proofs.StoredParts.{held-as, semaphores-stored}
 use Rattle.code_images.proofs.writing.put_semaphore_part.Statement.{statement}
 use Rattle.code_images.proofs.writing.put_semaphore_part.Tie as tie

@@ -3,7 +3,7 @@
 use borrow.Author.Needs.{needs}
 use Rattle.code_notes.proofs.ScratchParts.{Held, held-length}
 use Rattle.spec_images.specs.Images.{threadsStored}
-use Rattle.code_images.proofs.ImageShort.{threads-below}
+use Rattle.spec_images.proofs.Lengths.{threads-below}
 use Rattle.code_images.proofs.StoredParts.{held-as, threads-stored}
 use Rattle.code_images.proofs.writing.put_thread_part.Statement.{statement}
 use Rattle.code_images.proofs.writing.put_thread_part.Tie as tie

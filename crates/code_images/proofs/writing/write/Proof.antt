@@ -9,7 +9,7 @@ use Rattle.spec_rules.specs.Tests.{keepsRules}
 use Rattle.code_notes.proofs.ScratchParts.{Held, held-length, held}
 use Rattle.spec_images.specs.Images.{imageOf}
 use Rattle.spec_images.specs.OnImages.{written}
-use Rattle.code_images.proofs.ImageShort.{image-short}
+use Rattle.spec_images.proofs.Lengths.{image-short}
 use Rattle.code_images.proofs.ImageWritten.{stored-broken, lent-then, stored-none, stored-whole}
 use Rattle.code_images.proofs.writing.write.Statement.{statement}
 use Rattle.code_images.proofs.writing.write.Tie as tie
