@@ -1,5 +1,5 @@
 -- How long the sections of an image can be, and the image, whatever the state holds.
-use Prim.Native.Nat.{_+_, _*_, _≤_}
+use Prim.Native.Nat.{ℕ, _+_, _*_, _≤_}
 use mathlib.Core.Path.{_≡_}
 use native.Mathlib.Omega.{arith}
 use lib.ListN.{length, length-append}
@@ -11,7 +11,7 @@ use Rattle.spec_notes.proofs.EntriesShort.{threads-run, semaphores-run, events-
 use Rattle.spec_images.specs.Images.{noCall, noThreads, noSemaphores, freshEvents, noPosts, schedulerStored, threadsStored}
 use Rattle.spec_images.specs.Images.{semaphoresStored, eventsStored, flagsStored, messagesStored, imageOf, longestImage}
 
-pub flags-below : (flags : _) → length (flagsStored flags) ≡ 2
+pub flags-below : (flags : ℕ) → length (flagsStored flags) ≡ 2
 unfolding flagsStored
 flags-below flags = length-le 2 flags
 
