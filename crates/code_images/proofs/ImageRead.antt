@@ -3,11 +3,10 @@ use Prim.Native.Nat.{ℕ}
 use mathlib.Core.Path.{_≡_}
 use mathlib.Core.Bool.{true, false}
 use mathlib.Core.List.{List}
-use Rattle.spec_kernel.specs.declared.records.Kernel.{Kernel}
 use Rattle.spec_kernel.specs.Records.{fresh}
 use Rattle.spec_rules.specs.Tests.{keepsRules}
 use Rattle.spec_notes.specs.Touched.{sameRow}
-use Rattle.spec_images.specs.Images.{imageOf, sectionsStored, stateFrom, stateIn, isImage, recalled, readFrom}
+use Rattle.spec_images.specs.Images.{imageOf, stateIn, isImage, recalled, readFrom}
 
 module _ (s : List ℕ) where
   pub read-broken : keepsRules (stateIn s) ≡ false → recalled 16 fresh ≡ readFrom s

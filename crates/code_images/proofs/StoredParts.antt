@@ -1,7 +1,7 @@
 -- The sections of an image, as the code has them written: against the call and the tables that its own functions give.
 use Prim.Native.Nat.{ℕ, _≤_}
 use mathlib.Core.Path.{_≡_, ap, sym, _∙_}
-use mathlib.Core.List.{List, _++_, append-nil}
+use mathlib.Core.List.{List, append-nil}
 use lib.ListN.{length, replicate}
 use Rattle.base_bytes.specs.Bytes.{le}
 use Rattle.base_bytes.specs.Pens.{Pen, pen, put, puts}

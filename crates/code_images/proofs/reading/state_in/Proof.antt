@@ -42,7 +42,8 @@ module _ (x : List (List ℕ)) {c : Call} {none : Kernel} (e : c ≡ noCall) (f 
   events-in {rest = rest} b d l =
       l ∙ ap (λ (z : Kernel). eventsBefore (z .events) rest) f ∙ ap (eventsBefore freshEvents) (d ∙ ap (drop 4) b)
 
-  posts-in : {m : Posts} {s : List ℕ} → s ≡ messagesIn x → m ≡ postsBack c 255 (postsOf none) s → m ≡ postsBack noCall 255 noPosts (messagesIn x)
+  posts-in : {m : Posts} {s : List ℕ} → s ≡ messagesIn x → m ≡ postsBack c 255 (postsOf none) s
+      → m ≡ postsBack noCall 255 noPosts (messagesIn x)
   unfolding fresh
   posts-in {s = s} b m =
       m ∙ ap (λ z. postsBack z 255 (postsOf none) s) e ∙ ap (λ (z : Kernel). postsBack noCall 255 (postsOf z) s) f

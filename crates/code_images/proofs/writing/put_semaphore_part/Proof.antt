@@ -1,5 +1,5 @@
--- `code_images::writing::put_semaphore_part` meets its contract: the part is written to a scratch array that is long enough, and then behind its
--- length.
+-- `code_images::writing::put_semaphore_part` meets its contract: the part is written to a scratch array that is long enough, and then
+-- behind its length.
 use borrow.Author.Needs.{needs}
 use Rattle.code_notes.proofs.ScratchParts.{Held, held-length}
 use Rattle.spec_images.specs.Images.{semaphoresStored}
@@ -24,7 +24,8 @@ abbrev start-of : tie.After-put-semaphores → tie.Start
 start-of c = c .before .before .before .before .before .before .before
 
 -- what the scratch array holds is the part
-written : (c : tie.After-put-semaphores) → Held (c .put-semaphores .last .0) (c .put-semaphores .result) (semaphoresStored (start-of c .args .k))
+written : (c : tie.After-put-semaphores)
+    → Held (c .put-semaphores .last .0) (c .put-semaphores .result) (semaphoresStored (start-of c .args .k))
 written c =
     let k = start-of c .args .k in
     held-as (semaphores-below k)
