@@ -13,11 +13,12 @@ fail() { echo "FAILED: $*"; exit 1; }
 cd "$here"
 flags="-std=c11 -Wall -Wextra -Wpedantic -Wconversion -Wshadow -Werror"
 sanitize="-g -O1 -fsanitize=address,undefined -fno-sanitize-recover=all"
-program="main.c both.c replay.c rules.c notes.c undo.c"
+kernel="replay.c rules.c notes.c undo.c tables.c images.c"
+program="main.c both.c stored.c $kernel"
 gcc $flags -O2 -o "$work/second" $program
 gcc $flags -O2 -DNDEBUG -o "$work/quick" $program
 gcc $flags $sanitize -o "$work/careful" $program
-gcc $flags $sanitize -o "$work/unit" unit.c unit_flags.c replay.c rules.c notes.c undo.c
+gcc $flags $sanitize -o "$work/unit" unit.c unit_flags.c unit_images.c $kernel
 echo "built plain, quick (no asserts) and careful (sanitizers)"
 
 "$work/unit" || fail unit
@@ -73,6 +74,7 @@ for family in mixed ticks semaphores messages events priorities regions flags se
     for seed in $(seq "$seeds"); do
         $logs $family $seed $count > "$work/$family.$seed"
         compare $family.$seed
+        "$work/quick" images same < "$work/$family.$seed" > "$work/said" || fail "$family.$seed: $(cat "$work/said")"
         [ "$count" -lt 4000 ] || for n in $(suitable $family); do must_occur $family.$seed $n; done
     done
     echo "$family, $seeds seeds of $count:$(numbers "$work/$family".*.lines)"
@@ -97,6 +99,15 @@ differs() {
     grep -q "^differ at line $2:" "$work/said" || fail "both, $1: $(cat "$work/said")"
 }
 
+# Stored states: every image along the log $1 gives back its state, and a run over images answers as the model, there and back.
+stored() {
+    "$work/$2" images same < "$work/$1" > "$work/said" || fail "images same $1: $(cat "$work/said")"
+    "$work/$2" images < "$work/$1" | python3 "$here/images_lines.py" "$work/$1" > "$work/lines" || fail "images $1"
+    sed -e 's/ [0-9]*$//' -e '/^uptime/d' "$work/fake" | cmp - "$work/lines" || fail "images $1 against the model"
+    printf 'images of %s: ' $1
+    cat "$work/said"
+}
+
 $logs ticks 7 42000 > "$work/long" # more than its notes' log can hold
 for log in mixed.1 ticks.1 semaphores.1 messages.1 events.1 priorities.1 regions.1 flags.1 senseless.1 edges long; do
     build=careful
@@ -105,6 +116,8 @@ for log in mixed.1 ticks.1 semaphores.1 messages.1 events.1 priorities.1 regions
     fake $log
     printf 'notes of %s: ' $log
     agrees $log $build
+    [ $log = mixed.1 ] || build=second
+    stored $log $build
 done
 full=$(grep -c '^[0-9]* 13 ' "$work/fake") || fail "no number 13"
 echo "$full times number 13 in a full log"
@@ -128,6 +141,21 @@ last=$(wc -l < "$work/fake")
 sed 's/^fresh$/other/' "$work/fake" > "$work/bad"; differs "not fresh" "$last"
 sed '$d' "$work/fake" > "$work/bad"; differs "no last line" "$last"
 (cat "$work/fake"; echo more) > "$work/bad"; differs "a line too many" $((last + 1))
+
+# Damaged images of a few states of each family: no read goes beyond them. Another uptime or message's address is another right image.
+damaged() {
+    "$work/second" damaged $((count / 3 + 1)) < "$work/$1.1" > "$work/stream" || fail "damaged $1"
+    "$work/careful" recalled < "$work/stream" > "$work/lines" || fail "recalled $1"
+    "$work/quick" recalled < "$work/stream" | cmp - "$work/lines" || fail "recalled $1 differs"
+    awk '{ n[$1]++ } END { exit n[0] + n[16] != NR || n[0] < 3 || n[16] < NR / 3 }' "$work/lines" || fail "recalled $1"
+    printf ' %s %d of %d' $1 "$(grep -c '^0$' "$work/lines")" "$(wc -l < "$work/lines")"
+}
+printf 'damaged images that are images:'
+for family in mixed ticks semaphores messages events priorities regions flags senseless; do damaged $family; done
+echo
+# Not images at all: the log itself, read as a stream, with a cut tail.
+"$work/careful" recalled < "$work/mixed.1" | awk '$1 != 16 { bad = 1 } END { exit bad || NR == 0 }' || fail "a log read as images"
+if "$work/careful" damaged 0 < "$work/mixed.1" 2> /dev/null; then fail "damaged 0"; fi
 
 # Rounds write what `notes` writes, 256 times, and accept the same with and without notes.
 head -c 65536 "$work/mixed.1" > "$work/round"

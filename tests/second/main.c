@@ -1,4 +1,4 @@
-/* The program `second` and its modes but `both` (see README.md). */
+/* The program `second` and its modes but those of both.c and stored.c (see README.md). */
 #include <assert.h>
 #include <stdio.h>
 #include <stdlib.h>
@@ -164,6 +164,7 @@ static const struct {
 } modes[] = {
     { "printed", 0, printed }, { "notes", 0, notes }, { "back", 0, back }, { "rounds", 0, rounds },
     { "rounds", "plain", rounds_plain }, { "rounds", "undo", rounds_undo },
+    { "images", 0, images }, { "images", "same", images_same }, { "recalled", 0, recalled },
 };
 
 /* 2 where there is no such mode. */
@@ -171,11 +172,15 @@ static int run_mode(int argc, char **argv)
 {
     if (argc == 3 && strcmp(argv[1], "both") == 0)
         return both(argv[2]);
+    if (argc == 3 && strcmp(argv[1], "damaged") == 0 && strtoul(argv[2], 0, 10) > 0)
+        return damaged(strtoul(argv[2], 0, 10));
     for (size_t i = 0; i < sizeof modes / sizeof *modes; i++)
         if (argc == (modes[i].second ? 3 : 2) && strcmp(argv[1], modes[i].name) == 0
             && (argc == 2 || strcmp(argv[2], modes[i].second) == 0))
             return modes[i].run();
-    fprintf(stderr, "usage: second printed | both LINESFILE | notes | back | rounds [plain | undo]  < records\n");
+    fprintf(stderr, "usage: second printed | both LINESFILE | notes | back | rounds [plain | undo] | images [same]\n"
+                    "              | damaged STEP  < records\n"
+                    "       second recalled  < images, each after its length\n");
     return 2;
 }
 

@@ -1,4 +1,4 @@
-/* What main.c and both.c share. */
+/* What main.c, both.c and stored.c share. */
 #ifndef MODES_H
 #define MODES_H
 
@@ -20,5 +20,9 @@ int back(void);
 int rounds(void);
 int rounds_plain(void);
 int rounds_undo(void);
+int images(void);
+int images_same(void);
+int damaged(unsigned long every);
+int recalled(void);
 
 #endif

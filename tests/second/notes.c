@@ -1,14 +1,8 @@
 /* The reversal note of an accepted call, written from what the call touched. */
 #include <string.h>
 
+#include "entries.h"
 #include "notes.h"
-
-const struct layout scheduler_layout = { 3, { 1, 1, 1 } };
-const struct layout thread_layout = { 8, { 1, 1, 1, 4, 1, 1, 1, 1 } }; /* object id */
-const struct layout receiver_layout = { 8, { 1, 1, 2, 4, 1, 1, 1, 1 } }; /* mask */
-const struct layout semaphore_layout = { 5, { 1, 2, 2, 4, 4 } };
-const struct layout event_layout = { 3, { 1, 4, 4 } };
-const struct layout message_layout = { 8, { 1, 1, 1, 2, 4, 4, 1, 1 } };
 
 struct touched *touched;
 
@@ -165,12 +159,6 @@ void aged_back(struct semaphore *s)
 
 /* ---- what is predicted ---- */
 
-/* The wake reason's byte: with a timeout the waiter's condition, 2 to 5. */
-static uint8_t reason_code(const struct thread *t)
-{
-    return t->wake_reason == TIMED_OUT ? t->timed_out_kind : t->wake_reason;
-}
-
 void predict_scheduler(uint32_t *row, const uint8_t *record, const struct kernel *after)
 {
     int kind = record[0];
@@ -249,49 +237,6 @@ void predict_message(uint32_t *row, const uint8_t *record, uint8_t runner, const
     row[7] = kind == 27 ? 0 : NONE;
 }
 
-/* ---- bytes ---- */
-
-static inline uint8_t *put(uint8_t *p, int width, uint32_t value)
-{
-    for (int i = 0; i < width; i++)
-        p[i] = (uint8_t)(value >> 8 * i);
-    return p + width;
-}
-
-/* The flags and the fields that aren't as predicted, or nothing. Each caller's layout is constant, so its loop is written out. */
-static inline __attribute__((always_inline))
-uint8_t *put_fields(uint8_t *p, const struct layout *l, const uint32_t *old, const uint32_t *predicted)
-{
-    unsigned flags = 0;
-#pragma GCC unroll 8
-    for (int i = 0; i < l->fields; i++)
-        flags |= (unsigned)(old[i] != predicted[i]) << i;
-    if (flags == 0)
-        return p;
-    *p++ = (uint8_t)flags;
-    for (unsigned rest = flags; rest != 0; rest &= rest - 1) {
-        int i = __builtin_ctz(rest);
-        p = put(p, l->width[i], old[i]);
-    }
-    return p;
-}
-
-/* An entry without a code: the head has the id, and whether fields follow. */
-static inline __attribute__((always_inline))
-uint8_t *put_entry(uint8_t *head, int id, const struct layout *l, const uint32_t *old, const uint32_t *predicted)
-{
-    uint8_t *end = put_fields(head + 1, l, old, predicted);
-    *head = (uint8_t)(id | (end == head + 1 ? 0 : HEAD_FIELDS));
-    return end;
-}
-
-/* The section from `start` on ends at `end`: its length goes in front. */
-static uint8_t *end_section(uint8_t *start, uint8_t *end)
-{
-    put(start, 2, (uint32_t)(end - start - 2));
-    return end;
-}
-
 /* ---- the sections ---- */
 
 /* With both levels 0 the old runner is the first ready thread of the old state, and not written. */
@@ -316,13 +261,7 @@ static uint8_t *put_threads(uint8_t *start, const uint8_t *record, const struct 
                                  reason_code(&x->old), x->old.reply, x->place, x->time_place };
         uint32_t predicted[FIELDS];
         predict_thread(predicted, record, code, &k->threads[id]);
-        uint8_t *head = p++;
-        int said = code != predict_code(record, &k->threads[id]);
-        if (said)
-            *p++ = (uint8_t)code;
-        uint8_t *end = put_fields(p, code == WAITED_MESSAGE ? &receiver_layout : &thread_layout, old, predicted);
-        *head = (uint8_t)(id | (said ? HEAD_CODE : 0) | (end == p ? 0 : HEAD_FIELDS));
-        p = end;
+        p = put_thread_entry(p, id, code, predict_code(record, &k->threads[id]), old, predicted);
     }
     return end_section(start, p);
 }

@@ -6,7 +6,7 @@
 
 #include "replay.h"
 
-enum { LOG_LENGTH = 1048576, SHORTEST_NOTE = 30, LONGEST_NOTE = 2048, FIELDS = 8 };
+enum { LOG_LENGTH = 1048576, SHORTEST_NOTE = 30, LONGEST_NOTE = 2048 };
 
 /* ---- what a call touches, as it was before the call ---- */
 
@@ -56,19 +56,7 @@ void touch_queued(struct touched *t, const struct kernel *k, uint8_t id, int cha
 /* All messages that a thread owns. */
 void touch_messages_of(struct touched *t, const struct kernel *k, uint8_t owner);
 
-/* ---- a record as a row of fields, in the order of the layout ---- */
-
-struct layout {
-    int fields;
-    uint8_t width[FIELDS];
-};
-extern const struct layout scheduler_layout, thread_layout, receiver_layout, semaphore_layout, event_layout, message_layout;
-
-/* An entry's head: the id, whether a code follows, and whether flags and fields do. */
-enum { HEAD_ID = 63, HEAD_CODE = 64, HEAD_FIELDS = 128 };
-
-/* What a thread's condition was. */
-enum code { NOT_LIVE, WAS_READY, WAS_ASLEEP, WAITED_SEMAPHORE, WAITED_EVENT, WAITED_MESSAGE, WAITED_FLAG };
+/* ---- what is predicted ---- */
 
 /* The record before a tick, as far as ageing explains it; this serves the writer and the reader, as the next ones do. */
 void aged_back(struct semaphore *s);

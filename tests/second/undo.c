@@ -1,13 +1,9 @@
 /* The way back: a note's bytes read by docs/LAYOUT.md. Notes of this replay's own calls are taken as they are. */
 #include <string.h>
 
+#include "entries.h"
 #include "notes.h"
-
-/* A table of places: the ids in order, in its first `length` places. */
-struct table {
-    int length;
-    uint8_t place[MESSAGES];
-};
+#include "tables.h"
 
 /* A note's entries of one kind: which ids they have, and who of them stood at each place (NONE: nobody). */
 struct returned {
@@ -18,14 +14,6 @@ struct returned {
 struct section {
     const uint8_t *at, *end;
 };
-
-static uint32_t number(const uint8_t *p, int width)
-{
-    uint32_t n = 0;
-    for (int i = 0; i < width; i++)
-        n |= (uint32_t)p[i] << 8 * i;
-    return n;
-}
 
 /* The next section of the note; `*p` goes behind it. */
 static struct section next_section(const uint8_t **p)
@@ -46,11 +34,6 @@ static void read_fields(struct section *s, int there, const struct layout *l, ui
         }
 }
 
-static void append(uint8_t *place, uint8_t *length, uint8_t id)
-{
-    place[(*length)++] = id;
-}
-
 /* ---- the tables ---- */
 
 static void begin_returned(struct returned *r)
@@ -64,12 +47,6 @@ static void add_returned(struct returned *r, uint8_t id, uint32_t place)
     r->ids |= (uint64_t)1 << id;
     if (place != NONE)
         r->at[place] = id;
-}
-
-static void add_queue(struct table *t, const uint8_t *place, int length)
-{
-    memcpy(t->place + t->length, place, (size_t)length);
-    t->length += length;
 }
 
 /* The noted ones stand at their old places again, the others keep their order around them. */
@@ -89,43 +66,6 @@ static void put_back(struct table *t, const struct returned *r)
 
 /* ---- threads ---- */
 
-static void add_places(struct table *t, const struct kernel *k)
-{
-    for (int p = 1; p <= PRIORITIES; p++)
-        add_queue(t, k->ready[p].place, k->ready[p].length);
-    for (int s = 0; s < SEMAPHORES; s++)
-        add_queue(t, k->semaphore_waiters[s].place, k->semaphore_waiters[s].length);
-    for (int e = 0; e < EVENTS; e++)
-        add_queue(t, k->event_waiters[e].place, k->event_waiters[e].length);
-    for (int f = 0; f < FLAGS; f++)
-        add_queue(t, k->flag_waiters[f].place, k->flag_waiters[f].length);
-}
-
-/* Each list again from the table: a record tells its list. */
-static void deal_places(struct kernel *k, const struct table *t)
-{
-    memset(k->ready, 0, sizeof k->ready);
-    memset(k->semaphore_waiters, 0, sizeof k->semaphore_waiters);
-    memset(k->event_waiters, 0, sizeof k->event_waiters);
-    memset(k->flag_waiters, 0, sizeof k->flag_waiters);
-    for (int i = 0; i < t->length; i++) {
-        const struct thread *th = &k->threads[t->place[i]];
-        struct queue *q = th->condition == READY ? &k->ready[th->priority]
-            : th->condition == WAITS_SEMAPHORE ? &k->semaphore_waiters[th->object]
-            : th->condition == WAITS_EVENT ? &k->event_waiters[th->object] : &k->flag_waiters[th->object];
-        append(q->place, &q->length, t->place[i]);
-    }
-}
-
-static struct thread thread_from(int code, const uint32_t *row)
-{
-    struct thread t = { .live = code != NOT_LIVE, .priority = (uint8_t)row[0], .first_priority = (uint8_t)row[1],
-                        .condition = (uint8_t)(code == NOT_LIVE ? READY : code - 1), .object = (uint16_t)row[2],
-                        .ticks_left = row[3], .wake_reason = (uint8_t)(row[4] >= TIMED_OUT ? TIMED_OUT : row[4]),
-                        .timed_out_kind = (uint8_t)(row[4] >= TIMED_OUT ? row[4] : 0), .reply = (uint8_t)row[5] };
-    return t;
-}
-
 static void undo_threads(struct kernel *k, const uint8_t *record, struct section s)
 {
     struct returned lists, times;
@@ -134,7 +74,7 @@ static void undo_threads(struct kernel *k, const uint8_t *record, struct section
     if (s.at == s.end)
         return;
     add_places(&places, k); /* before the records change */
-    add_queue(&time, k->time_queue.place, k->time_queue.length);
+    add_time(&time, k);
     begin_returned(&lists);
     begin_returned(&times);
     while (s.at < s.end) {
@@ -150,9 +90,7 @@ static void undo_threads(struct kernel *k, const uint8_t *record, struct section
     put_back(&places, &lists);
     put_back(&time, &times);
     deal_places(k, &places);
-    memset(&k->time_queue, 0, sizeof k->time_queue);
-    for (int i = 0; i < time.length; i++)
-        append(k->time_queue.place, &k->time_queue.length, time.place[i]);
+    deal_time(k, &time);
 }
 
 /* ---- semaphores and events ---- */
@@ -201,18 +139,6 @@ static void undo_flags(struct kernel *k, const uint8_t *record, struct section s
 
 /* ---- messages ---- */
 
-/* The table `posted`, and the channel of each message in it. */
-static void add_posted(struct table *t, uint8_t *channel, const struct kernel *k)
-{
-    for (int owner = 0; owner < THREADS; owner++)
-        for (int c = 0; c < CHANNELS; c++) {
-            const struct channel *ch = &k->channels[owner][c];
-            add_queue(t, ch->place, ch->length);
-            for (int i = 0; i < ch->length; i++)
-                channel[ch->place[i]] = (uint8_t)(c + 1);
-        }
-}
-
 static void undo_messages(struct kernel *k, const uint8_t *record, uint8_t runner, struct section s)
 {
     struct returned queued;
@@ -234,12 +160,7 @@ static void undo_messages(struct kernel *k, const uint8_t *record, uint8_t runne
         add_returned(&queued, id, row[7]);
     }
     put_back(&posted, &queued);
-    memset(k->channels, 0, sizeof k->channels);
-    for (int i = 0; i < posted.length; i++) {
-        uint8_t m = posted.place[i];
-        struct channel *ch = &k->channels[k->messages[m].owner][channel[m] - 1];
-        append(ch->place, &ch->length, m);
-    }
+    deal_posted(k, channel, &posted);
 }
 
 /* ---- the scheduler and the whole note ---- */

@@ -408,6 +408,7 @@ int main(void)
     ticks();
     reasons();
     flags();
+    images();
     printf("unit %d checks, %d failures\n", checks, failures);
     return failures != 0;
 }
