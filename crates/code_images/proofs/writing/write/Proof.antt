@@ -23,17 +23,19 @@ put-whole-requires c κs = search needs
 
 -- the rules are kept
 abbrev start-of : tie.After-put-whole → tie.Start
-start-of c = c .before .before .before .before
+start-of c = c .before .before .before .before .before
 
 kept : (c : tie.After-put-whole) → keepsRules (start-of c .args .k) ≡ true
-kept c = let t = c .before .before .keeps-rules in sym (t .ensures) ∙ not-false (t .result) (c .before .if1 .left)
+kept c =
+    let t = c .before .before .before .keeps-rules in
+    sym (t .ensures) ∙ not-false (t .result) (c .before .before .if1 .left)
 
 same-length : tie.Need-same-length
 same-length c = search needs
 
 returns-2 : tie.Need-returns-2
 returns-2 c =
-    let w : tie.After-put-whole = c .before .before in
+    let w : tie.After-put-whole = c .before .before .before in
     let a = start-of w .args in
     let e = w .put-whole .ensures in
     (stored-none (a .k) (a .room .now) (kept w) (sym (e .0) ∙ c .if2 .taken), e .1 ∙ lent-then (a .k) (a .room .now) (kept w))
@@ -43,7 +45,7 @@ same-length-2 c = search needs
 
 returns-3 : tie.Need-returns-3
 returns-3 c =
-    let w : tie.After-put-whole = c .before .before in
+    let w : tie.After-put-whole = c .before .before .before in
     let a = start-of w .args in
     let e = w .put-whole .ensures in (
       ap (written 0) (e .0) ∙ stored-whole (a .k) (a .room .now) (kept w) (λ z. c .if2 .left (e .0 ∙ z)),
