@@ -19,6 +19,15 @@ unfolding imageOf
 image-some k = omega arith
 
 module _ (k : Kernel) (lent : List ℕ) where
+  pub fits-none : ends lent 0 (imageOf k) ≡ 0 → fits k lent ≡ false
+  unfolding ends
+  fits-none h =
+      cases (fits k lent) (λ e. let w : 0 + length (imageOf k) ≡ 0 = rw e at h in absurd (omega (arith, w, image-some k))) (λ e. e)
+
+  pub fits-some : (ends lent 0 (imageOf k) ≡ 0 → ⊥) → (fits k lent ≡ true) × (ends lent 0 (imageOf k) ≡ length (imageOf k))
+  unfolding ends
+  fits-some h = cases (fits k lent) (λ e. (e, rw (e, zero-add))) (λ e. absurd (h (rw e)))
+
   pub stored-broken : keepsRules k ≡ false → (written 14 0 ≡ storedIn k lent) × (lent ≡ lentThen k lent)
   unfolding storedIn lentThen
   stored-broken e = (rw e, rw e)
@@ -29,11 +38,9 @@ module _ (k : Kernel) (lent : List ℕ) where
     lent-then = rw kept
 
     pub stored-none : ends lent 0 (imageOf k) ≡ 0 → written 13 0 ≡ storedIn k lent
-    unfolding storedIn ends
-    stored-none h =
-        cases (fits k lent) (λ e. let w : 0 + length (imageOf k) ≡ 0 = rw e at h in absurd (omega (arith, w, image-some k)))
-        (λ e. rw (kept, e))
+    unfolding storedIn
+    stored-none h = rw (kept, fits-none h)
 
     pub stored-whole : (ends lent 0 (imageOf k) ≡ 0 → ⊥) → written 0 (ends lent 0 (imageOf k)) ≡ storedIn k lent
-    unfolding storedIn ends
-    stored-whole h = cases (fits k lent) (λ e. rw (kept, e, zero-add)) (λ e. absurd (h (rw e)))
+    unfolding storedIn
+    stored-whole h = let (e, n) = fits-some h in rw (kept, e, n)

@@ -34,8 +34,8 @@ module _ (l : Logged) (k : Kernel) (lent : List ℕ) (n used : ℕ) where
   kept-refused h = rw (ne-eqb (l .answer .number) 0 h) (refl, refl)
 
   module _ (z : l .answer .number ≡ 0) where
-    pub kept-short : fits (l .kernel) lent ≡ false → Kept (stored (answer 13 255 (k .runner)) n used) lent
-    unfolding noted
+    pub kept-short : fits (l .kernel) lent ≡ false
+        → Kept (stored (answer 13 255 (k .runner)) n used) (noted lent 0 (imageOf (l .kernel)))
     kept-short h = rw (eq-eqb (l .answer .number) 0 z, h) (refl, refl)
 
     pub kept-new : fits (l .kernel) lent ≡ true

@@ -1,23 +1,41 @@
 -- The ways out of a call on an image's state, each from what its tests have found.
-use Prim.Native.Nat.{ℕ, _+_}
+use Prim.Native.Nat.{ℕ, _+_, _-_, _≤_}
 use mathlib.Core.Path.{_≡_, refl, sym, ap, _∙_}
 use mathlib.Core.Bool.{Bool, true, false, cond}
 use mathlib.Core.List.{List}
+use native.Mathlib.Omega.{arith}
 use lib.Dec.{eqb, leb}
 use lib.ListN.{length, replicate}
+use borrow.Author.Tests.{le-leb, lt-leb, leb-true, leb-false}
 use borrow.Table.Steps.{cases}
-use Rattle.base_bytes.specs.Logs.{room, noted}
+use Rattle.base_bytes.specs.Logs.{room, noted, ends}
 use Rattle.spec_kernel.specs.declared.records.Kernel.{Kernel}
 use Rattle.spec_calls.specs.Calls.{callOf}
 use Rattle.spec_refusals.specs.Refusals.{numberOf}
 use Rattle.spec_refusals.specs.Named.{valueOf}
 use Rattle.spec_notes.specs.Notes.{longestNote}
+use Rattle.spec_answers.specs.declared.Answer.{Answer}
 use Rattle.spec_answers.specs.declared.Logged.{Logged}
 use Rattle.spec_answers.specs.Steps.{answer}
 use Rattle.spec_answers.specs.Logs.{stateAfter, noteFor, recorded, logAfter}
 use Rattle.spec_images.specs.declared.Stored.{Stored}
 use Rattle.spec_images.specs.Images.{imageOf}
 use Rattle.spec_images.specs.OnImages.{fits, stored, keeping, keepingIn}
+
+-- what fits behind the used part
+pub leb-behind : (used size n : ℕ) → used ≤ n → leb size (n - used) ≡ leb (used + size) n
+leb-behind used size n b =
+    cases (leb size (n - used)) (λ e. rw e (sym (le-leb (used + size) n (omega (arith, leb-true size (n - used) e)))))
+    (λ e. rw e (sym (lt-leb (used + size) n (omega (arith, leb-false size (n - used) e)))))
+
+-- where a note ends that has room
+pub ends-behind : (log : List ℕ) (used : ℕ) (note : List ℕ) → room log used note ≡ true → ends log used note ≡ used + length note
+unfolding ends
+ends-behind log used note h = rw h
+
+-- by equals
+pub stored-by : {x y : Answer} {n m used end : ℕ} → x ≡ y → n ≡ m → used ≡ end → stored x n used ≡ stored y m end
+stored-by e f g = λ i. stored (e i) (f i) (g i)
 
 module _ (k : Kernel) (bytes log : List ℕ) (used : ℕ) (lent : List ℕ) (n : ℕ) where
   abbrev l : Logged
@@ -48,10 +66,11 @@ module _ (k : Kernel) (bytes log : List ℕ) (used : ℕ) (lent : List ℕ) (n :
     left-note h = rw (z, h) (refl, refl, same-log (fits k lent))
 
     -- or for the image
-    pub left-image : fits (stateAfter k bytes) lent ≡ false → Left (stored (answer 13 255 (k .runner)) n used) lent log
+    pub left-image : fits (stateAfter k bytes) lent ≡ false
+        → Left (stored (answer 13 255 (k .runner)) n used) (noted lent 0 (imageOf (stateAfter k bytes))) log
     unfolding recorded logAfter noted
     left-image h =
-        cases (room log used (noteFor k bytes)) (λ e. rw (z, e, h) (refl, refl, refl)) (λ e. rw (z, e) (refl, refl, same-log (fits k lent)))
+        cases (room log used (noteFor k bytes)) (λ e. rw (z, e, h) (refl, refl, refl)) (λ e. rw (z, e, h) (refl, refl, same-log (fits k lent)))
 
     -- or for both
     pub both-kept : room log used (noteFor k bytes) ≡ true → fits (stateAfter k bytes) lent ≡ true
