@@ -1,6 +1,8 @@
 // The entries for C programs, on numbers and byte slices; host/replay.h declares them. An answer is one number, whose bytes are the number,
 // the value and the runner, the lowest first.
 ghost use mathlib.Core.Path.{_≡_};
+ghost use mathlib.Core.Bool.{cond};
+ghost use lib.Dec.{eqb};
 ghost use Rattle.spec_images.specs.OnImages.{recordOr0};
 ghost use Rattle.spec_images.specs.ForC.{packed, FreshForC, RunForC, UndoForC};
 use replay::images;
@@ -22,15 +24,20 @@ fn record_or_0(bytes: &[u8]) -> [u8; 16]
     replay::call_bytes(bytes)
 }
 
+// The length of an image that was written, or else the one that was there.
+fn length_then(number: u8, size: usize, length: usize) -> usize
+    ensures { λ r. ⌜ r ≡ cond (eqb number 0) size length ⌝ }
+{
+    if number == 0 { size } else { length }
+}
+
 // The image of the fresh state.
 #[no_mangle]
 pub extern "C" fn replay_fresh(image: &mut [u8], length: &mut usize) -> u32
     ensures { λ r. ⌜ FreshForC (now (image .entry)) (now (length .entry)) r (now (image .exit)) (now (length .exit)) ⌝ }
 {
     let w = images::write(replay::fresh(), image);
-    if w.number == 0 {
-        *length = w.length;
-    }
+    *length = length_then(w.number, w.length, *length);
     packed(Answer {
         number: w.number,
         value: 255,
