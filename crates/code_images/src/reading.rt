@@ -1,8 +1,10 @@
 // A state, read from any bytes: the one whose image they are, or nothing.
 ghost use mathlib.Core.Path.{_≡_};
+ghost use mathlib.Core.Bool.{cond};
 ghost use lib.ListN.{drop};
 ghost use Rattle.base_bytes.specs.Bytes.{un};
 ghost use Rattle.spec_images.specs.Images.{stateIn, recalled, readFrom};
+ghost use Rattle.spec_images.specs.OnImages.{holdsImage, stateAt};
 ghost use Rattle.spec_kernel.specs.Records.{fresh};
 use crate::writing::LONGEST;
 use crate::writing::no_call;
@@ -115,4 +117,14 @@ pub fn read(s: &[u8]) -> Recalled
         kernel: k,
         number: 0,
     }
+}
+
+// The image in the first n bytes; where there are fewer, none.
+pub fn read_at(s: &[u8], n: usize) -> Recalled
+    ensures { λ r. ⌜ r ≡ cond (holdsImage (now (s .entry)) n) (recalled 0 (stateAt (now (s .entry)) n)) (recalled 16 fresh) ⌝ }
+{
+    if s.len() < n {
+        return nothing();
+    }
+    read(&s[..n])
 }

@@ -1,18 +1,18 @@
 -- Whether the room holds an image, from what reading it gave; and what then comes back of a call and of an undo.
-use Prim.Native.Nat.{ℕ, _≤_, _<_}
+use Prim.Native.Nat.{ℕ}
 use mathlib.Core.Path.{_≡_, refl, sym, ap, _∙_}
-use mathlib.Core.Bool.{Bool, true, false, cond, and-eq-true-iff}
+use mathlib.Core.Bool.{true, false, cond}
 use mathlib.Core.List.{List}
 use native.Mathlib.Omega.{arith}
-use lib.Dec.{eqb, leb}
-use lib.ListN.{length, take}
-use borrow.Author.Tests.{eq-eqb, ne-eqb, le-leb, lt-leb}
+use lib.Dec.{eqb}
+use lib.ListN.{length}
+use borrow.Author.Tests.{eq-eqb, ne-eqb}
 use borrow.Table.Steps.{cases}
 use Rattle.base_bytes.specs.Logs.{noted}
 use Rattle.spec_kernel.specs.declared.records.Kernel.{Kernel}
+use Rattle.spec_kernel.specs.Records.{fresh}
 use Rattle.spec_rules.specs.Tests.{keepsRules}
 use Rattle.spec_rules.proofs.Exactly.{rules-hold}
-use Rattle.spec_notes.specs.Touched.{sameRow}
 use Rattle.spec_notes.specs.Within.{AreBytes}
 use Rattle.spec_answers.specs.declared.Logged.{Logged}
 use Rattle.spec_answers.specs.Steps.{answer}
@@ -20,7 +20,7 @@ use Rattle.spec_answers.specs.Logs.{recorded, logAfter, calledWith, logCalled, 
 use Rattle.spec_answers.proofs.Undos.{undone-kept}
 use Rattle.spec_images.specs.declared.Recalled.{Recalled}
 use Rattle.spec_images.specs.declared.Stored.{Stored}
-use Rattle.spec_images.specs.Images.{imageOf, stateIn, isImage, readFrom}
+use Rattle.spec_images.specs.Images.{imageOf, recalled}
 use Rattle.spec_images.specs.OnImages.{fits, stored, holdsImage, stateAt, keeping, keepingIn, damaged}
 use Rattle.spec_images.specs.OnImages.{calledOn, lentCalled, logCalledOn, undoneOn, lentUndone}
 use Rattle.spec_images.proofs.OnImages.{found}
@@ -42,25 +42,17 @@ module _ (l : Logged) (k : Kernel) (lent : List ℕ) (n used : ℕ) where
         → Kept (stored (l .answer) (length (imageOf (l .kernel))) (l .used)) (noted lent 0 (imageOf (l .kernel)))
     kept-new h = rw (eq-eqb (l .answer .number) 0 z, h) (refl, refl)
 
--- ---- whether an image is there
+-- ---- whether an image is there, from what reading it gave
 module _ (lent : List ℕ) (n : ℕ) where
-  pub beyond : length lent < n → holdsImage lent n ≡ false
-  unfolding holdsImage
-  beyond h = rw (lt-leb n (length lent) h)
-
-  module _ (r : Recalled) (e : r ≡ readFrom (take n lent)) where
+  module _ (r : Recalled) (e : r ≡ cond (holdsImage lent n) (recalled 0 (stateAt lent n)) (recalled 16 fresh)) where
     -- 16 came back
     pub not-read : (r .number ≡ 0 → ⊥) → holdsImage lent n ≡ false
-    unfolding holdsImage readFrom
-    not-read h =
-        cases (isImage (take n lent)) (λ i. absurd (h (ap (λ (x : Recalled). x .number) e ∙ rw i)))
-        (λ i. rw i (cases (leb n (length lent)) (λ b. rw b) (λ b. rw b)))
+    not-read h = cases (holdsImage lent n) (λ i. absurd (h (ap (λ (x : Recalled). x .number) e ∙ rw i))) (λ i. i)
 
     -- or the state
-    pub was-read : n ≤ length lent → r .number ≡ 0 → (holdsImage lent n ≡ true) × (r .kernel ≡ stateAt lent n)
-    unfolding holdsImage readFrom
-    was-read b z =
-        cases (isImage (take n lent)) (λ i. (rw (le-leb n (length lent) b, i), ap (λ (x : Recalled). x .kernel) e ∙ rw i))
+    pub was-read : r .number ≡ 0 → (holdsImage lent n ≡ true) × (r .kernel ≡ stateAt lent n)
+    was-read z =
+        cases (holdsImage lent n) (λ i. (i, ap (λ (x : Recalled). x .kernel) e ∙ rw i))
         (λ i. let d : r .number ≡ 16 = ap (λ (x : Recalled). x .number) e ∙ rw i in absurd (omega arith))
 
   -- ---- a call

@@ -108,10 +108,7 @@ pub fn called_on(
         × (now (room .exit) ≡ lentCalled (now (room .entry)) length bytes (now (log .entry)) used)
         × (now (log .exit) ≡ logCalledOn (now (room .entry)) length bytes (now (log .entry)) used) ⌝ }
 {
-    if room.len() < length {
-        return damaged(length, used);
-    }
-    let old = reading::read(&room[..length]);
+    let old = reading::read_at(room, length);
     if old.number != 0 {
         return damaged(length, used);
     }
@@ -141,10 +138,7 @@ pub fn undo_on(room: &mut [u8], length: usize, log: &[u8], used: usize) -> Store
     ensures { λ r. ⌜ (r ≡ undoneOn (now (room .entry)) length (now (log .entry)) used)
         × (now (room .exit) ≡ lentUndone (now (room .entry)) length (now (log .entry)) used) ⌝ }
 {
-    if room.len() < length {
-        return damaged(length, used);
-    }
-    let old = reading::read(&room[..length]);
+    let old = reading::read_at(room, length);
     if old.number != 0 {
         return damaged(length, used);
     }
