@@ -126,11 +126,11 @@ fn undo_on_state(k: Kernel, room: &mut [u8], length: usize, log: &[u8], used: us
         return left(l.answer, length, used);
     }
     let before = l.kernel;
-    let n = writing::put_whole(before, room);
-    if n == 0 {
+    let back = writing::put_whole(before, room);
+    if back == 0 {
         return no_room(k.runner, length, used);
     }
-    left(l.answer, n, l.used)
+    left(l.answer, back, l.used)
 }
 
 // The log's last note undone on the image in the first `length` bytes of the room.
@@ -138,10 +138,10 @@ pub fn undo_on(room: &mut [u8], length: usize, log: &[u8], used: usize) -> Store
     ensures { λ r. ⌜ (r ≡ undoneOn (now (room .entry)) length (now (log .entry)) used)
         × (now (room .exit) ≡ lentUndone (now (room .entry)) length (now (log .entry)) used) ⌝ }
 {
-    let old = reading::read_at(room, length);
-    if old.number != 0 {
+    let end = reading::read_at(room, length);
+    if end.number != 0 {
         return damaged(length, used);
     }
-    let k = old.kernel;
+    let k = end.kernel;
     undo_on_state(k, room, length, log, used)
 }

@@ -74,8 +74,8 @@ pub extern "C" fn replay_undo(
     ensures { λ r. ⌜ UndoForC (now (image .entry)) (now (length .entry)) (now (log .entry)) (now (used .entry)) r
         (now (image .exit)) (now (length .exit)) (now (used .exit)) ⌝ }
 {
-    let s = images::undo_on(image, *length, log, *used);
-    *length = s.length;
-    *used = s.used;
-    packed(s.answer)
+    let back = images::undo_on(image, *length, log, *used);
+    *length = back.length;
+    *used = back.used;
+    packed(back.answer)
 }
