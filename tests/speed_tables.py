@@ -1,4 +1,5 @@
-"""The tables of tests/speed: speed_tables.py FOLDER SEEDS RUNS (TITLE PROVED SECOND)..; PROVED stands before a program's name."""
+"""The tables of tests/speed: speed_tables.py FOLDER SEEDS RUNS (TITLE PROVED SECOND)..; PROVED stands before a program's name, and
+HOST in the environment is the host in C."""
 import os
 import re
 import resource
@@ -73,6 +74,19 @@ def print_times(title, times):
         print('| %s to a call | %.1f | %.1f | |' % (name, median[a] / median['call'], to_call))
 
 
+def print_images(host, proved, work, seeds, runs):
+    """A call on a stored image, by the host in C, beside one on a state, both with its note."""
+    image, state = [], []
+    for seed in range(1, seeds + 1):
+        for _ in range(runs):
+            for command, times in ((host + ' rounds 16', image), (proved + 'app_rounds', state)):
+                took, out = timed(command, '%s/log%d' % (work, seed))
+                times.append(took / calls_or_undos(out.decode()) * 1e9)
+    print('\n| where programs for x86-64 run: ns | on an image | on a state | ratio |\n|---|---|---|---|')
+    cells = ['%.0f (%.0f to %.0f)' % (statistics.median(t), min(t), max(t)) for t in (image, state)]
+    print('| a call forwards with its note | %s | %s | %.1f |' % (*cells, statistics.median(image) / statistics.median(state)))
+
+
 def note_lengths(log):
     """The kind and the length of each note: its first byte, and its last two."""
     end = len(log)
@@ -102,4 +116,5 @@ work, seeds, runs, places = sys.argv[1], int(sys.argv[2]), int(sys.argv[3]), sys
 print('mixed logs of 4096 records: %d, %d runs each, alternately; processor time, medians and the least to the most' % (seeds, runs))
 for i in range(0, len(places), 3):
     print_times(places[i], measured(places[i + 1], places[i + 2], work, seeds, runs))
+print_images(os.environ['HOST'], places[1], work, seeds, runs)
 print_lengths(places[1], work, seeds)

@@ -1,5 +1,5 @@
-// Over a stored state: records from standard input to its end, each as a call on the image; then every note undone on it. After each step the
-// answer is written (number, value, runner), the image's length in two bytes, and the image.
+// Over a stored state: records from standard input to its end, each as a call on the image; then every note undone on it. After each step
+// the answer is written (number, value, runner), the image's length in two bytes, and the image.
 use replay::images;
 use spec_answers::Answer;
 use spec_images::Stored;

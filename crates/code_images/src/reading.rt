@@ -42,7 +42,7 @@ fn flags_in(s: &[u8]) -> u16
 }
 
 // The state that the sections tell, whatever they hold.
-pub fn state_in(s: &[u8]) -> Kernel
+fn state_in(s: &[u8]) -> Kernel
     ensures { λ r. ⌜ r ≡ stateIn (now (s .entry)) ⌝ }
 {
     let all = behind(s, 1);
@@ -56,11 +56,8 @@ pub fn state_in(s: &[u8]) -> Kernel
         records: messages,
         posted: posted,
     };
-    let t = threads_back(
-        c,
-        states::threads_of(none),
-        section_of(all, frames::THREADS_AT),
-    );
+    let nobody = states::threads_of(none);
+    let t = threads_back(c, nobody, section_of(all, frames::THREADS_AT));
     let m = posts_back(c, 255, posts, section_of(all, frames::MESSAGES_AT));
     let semaphores = none.semaphores;
     let usual = none.events;

@@ -1,10 +1,9 @@
 -- Whether the room holds an image, from what reading it gave; and what then comes back of a call and of an undo.
 use Prim.Native.Nat.{ℕ}
-use mathlib.Core.Path.{_≡_, refl, sym, ap, _∙_}
+use mathlib.Core.Path.{_≡_, refl, ap, _∙_}
 use mathlib.Core.Bool.{true, false, cond}
 use mathlib.Core.List.{List}
 use native.Mathlib.Omega.{arith}
-use lib.Dec.{eqb}
 use lib.ListN.{length}
 use borrow.Author.Tests.{eq-eqb, ne-eqb}
 use borrow.Table.Steps.{cases}
@@ -21,7 +20,7 @@ use Rattle.spec_answers.proofs.Undos.{undone-kept}
 use Rattle.spec_images.specs.declared.Recalled.{Recalled}
 use Rattle.spec_images.specs.declared.Stored.{Stored}
 use Rattle.spec_images.specs.Images.{imageOf, recalled}
-use Rattle.spec_images.specs.OnImages.{fits, stored, holdsImage, stateAt, keeping, keepingIn, damaged}
+use Rattle.spec_images.specs.OnImages.{fits, stored, holdsImage, stateAt, keeping, keepingIn}
 use Rattle.spec_images.specs.OnImages.{calledOn, lentCalled, logCalledOn, undoneOn, lentUndone}
 use Rattle.spec_images.proofs.OnImages.{found}
 

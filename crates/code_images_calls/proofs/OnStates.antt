@@ -70,7 +70,8 @@ module _ (k : Kernel) (bytes log : List ℕ) (used : ℕ) (lent : List ℕ) (n :
         → Left (stored (answer 13 255 (k .runner)) n used) (noted lent 0 (imageOf (stateAfter k bytes))) log
     unfolding recorded logAfter noted
     left-image h =
-        cases (room log used (noteFor k bytes)) (λ e. rw (z, e, h) (refl, refl, refl)) (λ e. rw (z, e, h) (refl, refl, same-log (fits k lent)))
+        cases (room log used (noteFor k bytes)) (λ e. rw (z, e, h) (refl, refl, refl))
+        (λ e. rw (z, e, h) (refl, refl, same-log (fits k lent)))
 
     -- or for both
     pub both-kept : room log used (noteFor k bytes) ≡ true → fits (stateAfter k bytes) lent ≡ true

@@ -64,7 +64,7 @@ fn has_room(log: &[u8], used: usize, size: usize) -> bool
     size <= log.len() - used
 }
 
-// The call on the state whose image is in the room. Its note is made beside the log: the log is written last, when the image has found room.
+// The call on the state whose image is in the room. Its note is made beside the log, which is written last, when the image has found room.
 fn call_on_state(
     k: Kernel,
     room: &mut [u8],

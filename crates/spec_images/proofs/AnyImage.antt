@@ -1,12 +1,10 @@
 -- Whatever bytes are read, the state that they tell has its sizes; and where it keeps the rules, its fields have their limits.
-use Prim.Native.Nat.{ℕ, _<_}
-use mathlib.Core.Path.{_≡_, _∙_}
-use mathlib.Core.List.{List, []}
-use lib.ListN.{getD, drop, replicate, length-replicate}
-use Rattle.base_bytes.specs.Bytes.{un}
+use Prim.Native.Nat.{ℕ}
+use mathlib.Core.Path.{_∙_}
+use mathlib.Core.List.{List}
+use lib.ListN.{drop, length-replicate}
 use Rattle.base_bytes.proofs.Numbers.{un-small}
 use Rattle.base_rows.proofs.Fitted.{drop-bytes}
-use Rattle.spec_kernel.specs.declared.records.Kernel.{Kernel}
 use Rattle.spec_kernel.specs.Sizes.{threadCount, semaphoreCount, eventCount, messageCount}
 use Rattle.spec_kernel.specs.Records.{fresh, noThread, noSemaphore, freshEvent, noMessage}
 use Rattle.spec_rules.specs.Rules.{Sized, Rules}

@@ -1,12 +1,10 @@
 -- A state's image reads back: its sections, and of them the state.
-use Prim.Native.Nat.{ℕ, _^_, _<_}
-use mathlib.Core.Path.{_≡_, refl, sym, ap, _∙_}
-use mathlib.Core.List.{List, [], _∷_, _++_, append-nil}
+use mathlib.Core.Path.{_≡_, sym, ap, _∙_}
+use mathlib.Core.List.{[], _∷_}
 use lib.ListN.{drop}
-use Rattle.base_bytes.specs.Bytes.{le, un}
+use Rattle.base_bytes.specs.Bytes.{le}
 use Rattle.base_bytes.proofs.Numbers.{drop-le, un-le}
 use Rattle.base_queue.proofs.Counts.{same}
-use Rattle.spec_kernel.specs.declared.records.Event.{Event}
 use Rattle.spec_kernel.specs.declared.records.Kernel.{Kernel}
 use Rattle.spec_kernel.specs.Sizes.{eventCount}
 use Rattle.spec_notes.specs.Sections.{threadsSection, semaphoresSection, eventEntries, eventsSection, messagesSection}
@@ -18,7 +16,7 @@ use Rattle.spec_notes.proofs.EventsBack.{events-back}
 use Rattle.spec_notes.proofs.MessagesBack.{messages-back, posted-back}
 use Rattle.spec_answers.specs.Runs.{Undamaged}
 use Rattle.spec_images.specs.Images.{noCall, freshEvents, schedulerStored, threadsStored, semaphoresStored, eventsStored}
-use Rattle.spec_images.specs.Images.{flagsStored, messagesStored, storedSections, imageOf, sectionsStored, stateFrom, stateIn}
+use Rattle.spec_images.specs.Images.{flagsStored, messagesStored, storedSections, imageOf, stateFrom, stateIn}
 use Rattle.spec_images.proofs.Nothing.{bare, bare-sized, bare-rules, alone}
 use Rattle.spec_images.proofs.Lengths.{sections-short}
 

@@ -1,18 +1,17 @@
 -- No image is longer than the longest, and each of its sections fits the two bytes of its length.
-use Prim.Native.Nat.{ℕ, _+_, _*_, _≤_, _<_}
-use mathlib.Core.Path.{_≡_, refl}
-use mathlib.Core.List.{List, [], _∷_, _++_}
+use Prim.Native.Nat.{ℕ, _+_, _*_, _≤_}
+use mathlib.Core.Path.{_≡_}
 use native.Mathlib.Omega.{arith}
 use lib.ListN.{length, length-append}
 use Rattle.base_bytes.proofs.Numbers.{length-le}
 use Rattle.spec_kernel.specs.declared.records.Kernel.{Kernel}
 use Rattle.spec_kernel.specs.Sizes.{threadCount, semaphoreCount, eventCount, messageCount}
 use Rattle.spec_moves.specs.Standing.{threadsOf, postsOf}
-use Rattle.spec_notes.specs.Notes.{section, framed}
 use Rattle.spec_notes.proofs.EntriesShort.{threads-run, semaphores-run, events-run, messages-run}
 use Rattle.spec_notes.proofs.FramesRead.{Short, none, more}
 use Rattle.spec_images.specs.Images.{noCall, noThreads, noSemaphores, freshEvents, noPosts, schedulerStored, threadsStored}
-use Rattle.spec_images.specs.Images.{semaphoresStored, eventsStored, flagsStored, messagesStored, storedSections, imageOf, longestImage}
+use Rattle.spec_images.specs.Images.{semaphoresStored, eventsStored, flagsStored, messagesStored, storedSections, imageOf}
+use Rattle.spec_images.specs.Images.{longestImage}
 use Rattle.spec_images.specs.Promises.{ImagesAreShort}
 
 pub flags-below : (flags : ℕ) → length (flagsStored flags) ≡ 2

@@ -1,16 +1,15 @@
--- The state in which nothing is live, with the uptime, the bits and the flags of another: it keeps the rules, an image is told against it as
--- a note against the state after its call, and of every record that is live it speaks.
-use Prim.Native.Nat.{ℕ, zero, suc, _<_}
+-- The state in which nothing is live, with the uptime, the bits and the flags of another: it keeps the rules, and an image is told against
+-- it as a note against the state after its call. An entry tells of a record exactly where it is live.
+use Prim.Native.Nat.{ℕ, zero, suc}
 use mathlib.Core.Path.{_≡_, refl, sym, ap, _∙_}
-use mathlib.Core.Bool.{Bool, true, false, not, cond, _||_, or-false, false≢true}
+use mathlib.Core.Bool.{Bool, true, false, not, or-false, false≢true}
 use mathlib.Core.List.{List, []}
 use mathlib.Core.Logic.{inl}
 use native.Mathlib.Omega.{arith}
 use lib.Dec.{ltb}
 use lib.ListN.{getD, replicate}
-use borrow.Author.Tests.{lt-ltb}
 use borrow.Table.Steps.{cases}
-use Rattle.base_queue.specs.Lists.{count, keep}
+use Rattle.base_queue.specs.Lists.{keep}
 use Rattle.base_queue.specs.Queues.{items, isTidy}
 use Rattle.base_queue.specs.Tables.{one, Placed, isPlaced}
 use Rattle.spec_kernel.specs.declared.records.Thread.{Thread}
@@ -18,12 +17,12 @@ use Rattle.spec_kernel.specs.declared.records.Semaphore.{Semaphore}
 use Rattle.spec_kernel.specs.declared.records.Message.{Message}
 use Rattle.spec_kernel.specs.declared.records.Kernel.{Kernel}
 use Rattle.spec_kernel.specs.Sizes.{threadCount, semaphoreCount, messageCount}
-use Rattle.spec_kernel.specs.Records.{noThread, noSemaphore, noMessage, fresh, thread, semaphore, message}
+use Rattle.spec_kernel.specs.Records.{noThread, noSemaphore, noMessage, fresh, thread, message}
 use Rattle.spec_kernel.specs.Places.{homeOf, hasHome, isQueued}
 use Rattle.spec_kernel.specs.Runner.{chosen}
 use Rattle.spec_threads.proofs.LawsOfLists.{keep-none}
 use Rattle.spec_moves.specs.States.{stateOf}
-use Rattle.spec_rules.specs.Rules.{Sized, Rules, DeadThreads, DeadSemaphores, DeadMessages}
+use Rattle.spec_rules.specs.Rules.{Sized, Rules, DeadThreads, DeadMessages}
 use Rattle.spec_rules.specs.Tests.{isNoThread, isNoSemaphore, isNoMessage, threadKept, semaphoreKept, messageKept, threadsKept}
 use Rattle.spec_rules.specs.Tests.{semaphoresKept, messagesKept, inRank, inTime, inStream, placesKept, timeKept, postedKept, runnerKept}
 use Rattle.spec_rules.specs.Tests.{keepsRules}

@@ -1,13 +1,12 @@
 -- What is promised of a call and of an undo on an image.
 use Prim.Native.Nat.{ℕ, _≤_, _<_}
-use mathlib.Core.Path.{_≡_, refl, sym, ap, _∙_}
+use mathlib.Core.Path.{_≡_, refl, sym, _∙_}
 use mathlib.Core.Bool.{Bool, true, false, cond, and-eq-true-iff, false≢true}
-use mathlib.Core.List.{List, _++_}
-use mathlib.Core.Logic.{_↔_}
+use mathlib.Core.List.{List}
 use native.Mathlib.Omega.{arith}
 use lib.Dec.{eqb, leb}
-use lib.ListN.{length, take, drop, replicate}
-use borrow.Author.Tests.{eqb-true, eqb-false, eq-eqb, ne-eqb, leb-true, le-leb}
+use lib.ListN.{length, take}
+use borrow.Author.Tests.{eqb-true, eqb-false, ne-eqb, leb-true, le-leb}
 use borrow.Table.Steps.{cases}
 use Rattle.base_rows.proofs.Fitted.{take-bytes}
 use Rattle.spec_kernel.specs.declared.records.Kernel.{Kernel}
@@ -115,7 +114,9 @@ unfolding RulesAreKept
 undo-gives k log used K B =
     let A = undoes-so k log used (K .types) B in
     record {
-      never = Undos.one-of-three k log used (λ x. x .answer .number ≡ 16 → ⊥) (λ _ _ z. omega arith) (λ _ _ z. omega arith) (λ _ z. omega arith);
+      never =
+          Undos.one-of-three k log used (λ x. x .answer .number ≡ 16 → ⊥) (λ _ _ z. omega arith) (λ _ _ z. omega arith)
+          (λ _ z. omega arith);
       leaves = λ _. (Undos.one-of-three k log used (λ x. x .answer .value ≡ 255) (λ _ _. refl) (λ _ _. refl) (λ _. refl), refl);
       keeps = λ _. let (T, R) = A .rulesAreKept (K .rules) in record { types = T; rules = R };
     }

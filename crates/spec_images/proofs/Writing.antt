@@ -18,7 +18,8 @@ use Rattle.spec_notes.specs.Touched.{changedSemaphore, touchedThread, touchedMe
 use Rattle.spec_notes.specs.Sections.{entriesFrom, threadEntry, semaphoreEntry, messageEntry}
 use Rattle.spec_notes.specs.Within.{OfTypes}
 use Rattle.spec_images.specs.declared.Written.{Written}
-use Rattle.spec_images.specs.Images.{noCall, noThreads, noSemaphores, noPosts, threadsStored, semaphoresStored, messagesStored, imageOf}
+use Rattle.spec_images.specs.Images.{noCall, noThreads, noSemaphores, noPosts, threadsStored, semaphoresStored, messagesStored}
+use Rattle.spec_images.specs.Images.{imageOf}
 use Rattle.spec_images.specs.OnImages.{written, fits, storedIn, lentThen}
 use Rattle.spec_images.specs.Promises.{BrokenIsNotStored, NoRoomIsRefused, RefusedWritesNothing, ImageIsWritten, StoredAway}
 use Rattle.spec_images.specs.Promises.{LiveInOrder, OneWriting}
@@ -72,7 +73,8 @@ unfolding OneWriting
 one-writing k lent r s l m R S = (R .result ∙ sym (S .result), R .bytes ∙ sym (S .bytes))
 
 -- ---- the entries
-semaphore-live : (k : Kernel) → Rules k → (i : ℕ) → changedSemaphore noCall (semaphore k i) (getD noSemaphores i noSemaphore) ≡ semaphore k i .live
+semaphore-live : (k : Kernel) → Rules k → (i : ℕ)
+    → changedSemaphore noCall (semaphore k i) (getD noSemaphores i noSemaphore) ≡ semaphore k i .live
 unfolding DeadSemaphores
 semaphore-live k R i = rw (none-there semaphoreCount i noSemaphore) (semaphore-told (semaphore k i) (R .deadSemaphores i))
 

@@ -9,9 +9,7 @@ use Rattle.spec_kernel.specs.declared.records.Kernel.{Kernel}
 use Rattle.spec_kernel.specs.Records.{fresh}
 use Rattle.spec_answers.specs.declared.Answer.{Answer}
 use Rattle.spec_answers.specs.Steps.{answer}
-use Rattle.spec_images.specs.declared.Stored.{Stored}
-use Rattle.spec_images.specs.Images.{imageOf}
-use Rattle.spec_images.specs.OnImages.{written, stored, calledOn, undoneOn, recordOr0}
+use Rattle.spec_images.specs.OnImages.{written, stored, recordOr0}
 use Rattle.spec_images.specs.Promises.{Holds, StoredAway, AnsweredOn, UndoneOn}
 
 -- The number in the lowest byte, the value in the next, the runner in the third.

@@ -3,7 +3,6 @@
 -- What is given is a value of its type (Undamaged has that, AreBytes) and nothing more.
 use Prim.Native.Nat.{ℕ, _≤_, _<_}
 use mathlib.Core.Path.{_≡_}
-use mathlib.Core.Bool.{Bool}
 use mathlib.Core.List.{List, _++_}
 use mathlib.Core.Logic.{_↔_}
 use lib.ListN.{length, take, drop}
@@ -89,8 +88,8 @@ NothingChanges lent n log used r lent′ log′ =
     → (r .answer .value ≡ 255) × (r .length ≡ n) × (r .used ≡ used) × (lent′ ≡ lent) × (log′ ≡ log)
     × (r .answer .number ≡ 16 → r .answer .runner ≡ 255)
 
--- Where the same on the state k gives l, with this log: its number where it is refused; last of all 13 where the new image has no room; else
--- its answer, its log, and the image of its state, which reads back.
+-- Where the same on the state k gives l, with this log: its number where it is refused; last of all 13 where the new image has no room;
+-- else its answer, its log, and the image of its state, which reads back.
 pub record AsOnState (k : Kernel) (l : Logged) (log″ lent : List ℕ) (n used : ℕ) (r : Stored) (lent′ log′ : List ℕ) : Type 0 where
   pub refused : (l .answer .number ≡ 0 → ⊥) → r .answer ≡ l .answer
   pub noRoom : l .answer .number ≡ 0 → length lent < length (imageOf (l .kernel)) → r .answer ≡ answer 13 255 (k .runner)

@@ -2,7 +2,7 @@
 use spec_answers::Answer;
 use spec_kernel::records::Kernel;
 
-// What an image holds: 0 and the state; or 16, and nothing of it: the state is the fresh one. An enum would say it, but none holds an array.
+// What an image holds: 0 and the state; or 16 and nothing: the state is the fresh one. An enum would say it, but an enum holds no array.
 pub struct Recalled {
     pub kernel: Kernel,
     pub number: u8,

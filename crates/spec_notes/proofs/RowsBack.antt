@@ -1,16 +1,14 @@
 -- A row, written as the flags and the fields that aren't as predicted, reads back.
 use Prim.Native.Nat.{ℕ, zero, suc, _+_, _*_, _/_, _%_, _^_, _<_}
-use mathlib.Core.Path.{_≡_, refl, sym, ap, _∙_}
+use mathlib.Core.Path.{_≡_, refl, sym, _∙_}
 use mathlib.Core.Bool.{false}
 use mathlib.Core.List.{List, [], _∷_, _++_, append-assoc}
-use native.Mathlib.Nat.{pow-suc}
 use native.Mathlib.Omega.{arith}
 use lib.Dec.{eqb}
 use lib.ListN.{length, drop, replicate, length-append}
-use lib.Seq.{drop-at, drop-drop, drop-append-seam}
+use lib.Seq.{drop-drop, drop-append-seam}
 use borrow.Author.Tests.{eqb-true}
 use borrow.Table.Steps.{cases}
-use Rattle.base_bytes.specs.Bytes.{le, un}
 use Rattle.base_bytes.proofs.Numbers.{length-le, drop-le, un-le}
 use Rattle.base_rows.specs.Rows.{flagsOf, bodyOf, usedBy, rowFrom}
 use Rattle.base_rows.specs.Entries.{headOf, tailOf, fieldsFrom, rowIn, ownIn}

@@ -1,5 +1,5 @@
-// What the test of the state rules says of the states in `stdin`. Its first line makes the busy state out of the fresh one;
-// each later line is a name, a bar, and how the busy state is changed. A change is a letter and a number:
+// What the test of the state rules says of the states in `stdin`, and what becomes of their images. The first line there makes the busy
+// state out of the fresh one; each later line is a name, a bar, and how the busy state is changed. A change is a letter and a number:
 //   F        the fresh state again
 //   P T C    the places, the time queue, the channels begin anew with this member; then , for the next member,
 //            - for all that follow up to this one, L for this length and garbage in the last place
@@ -14,6 +14,7 @@ ghost use Prim.Native.Nat.{_≤_};
 ghost use lib.ListN.{length};
 use base_queue::CAPACITY;
 use base_queue::Queue;
+use replay::images;
 use spec_kernel::records::Condition;
 use spec_kernel::records::Event;
 use spec_kernel::records::Kernel;
@@ -334,14 +335,31 @@ fn made(k: Kernel, s: &[u8]) -> Kernel {
 
 // ---- the lines
 
-// A line of the output: the state's name, and what the test says.
+// Of the state's image: the number that writing it gets, its length, and whether reading it gives the state.
+fn show_image(k: Kernel) {
+    let mut room = [0u8; 2048];
+    let w = images::write(k, &mut room);
+    io::print_decimal(1, w.number as u64);
+    io::write_all(1, b" ");
+    io::print_decimal(1, w.length as u64);
+    let r = images::read(base_lines::up_to(&room, w.length));
+    let kernel = r.kernel;
+    if replay::same_kernel(kernel, k) {
+        io::write_all(1, b" same\n");
+    } else {
+        io::write_all(1, b" other\n");
+    }
+}
+
+// A line of the output: the state's name, what the test says, and its image.
 fn show(name: &[u8], k: Kernel) {
     io::write_all(1, name);
     if code_rules::keeps_rules(k) {
-        io::write_all(1, b" kept\n");
+        io::write_all(1, b" kept ");
     } else {
-        io::write_all(1, b" broken\n");
+        io::write_all(1, b" broken ");
     }
+    show_image(k);
 }
 
 // The first place of b from `at` on, or the end.

@@ -1,7 +1,7 @@
 -- `code_images_calls::call_on_state` meets its contract: each way out is what is kept of the call's result.
 use Prim.Native.Nat.{ℕ, _+_, _≤_}
 use mathlib.Core.Path.{_≡_, sym, ap, _∙_}
-use mathlib.Core.Bool.{Bool, true, false}
+use mathlib.Core.Bool.{true}
 use mathlib.Core.List.{List}
 use lib.Dec.{leb}
 use lib.ListN.{length, take}
@@ -20,7 +20,6 @@ use Rattle.spec_answers.proofs.FromTypes.{is-record}
 use Rattle.code_answers_undo.proofs.Again.{run-refused, run-accepted, run-next, note-stands}
 use Rattle.code_images.proofs.ImageWritten.{fits-none, fits-some}
 use Rattle.spec_images.specs.Images.{imageOf}
-use Rattle.spec_images.specs.OnImages.{fits}
 use Rattle.code_images_calls.proofs.OnStates.{left-refused, left-note, left-image, both-kept, ends-behind, stored-by}
 use Rattle.code_images_calls.proofs.call_on_state.Statement.{statement}
 use Rattle.code_images_calls.proofs.call_on_state.Tie as tie

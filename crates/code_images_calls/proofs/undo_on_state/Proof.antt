@@ -1,5 +1,5 @@
 -- `code_images_calls::undo_on_state` meets its contract: each way out is what is kept of the undo's result.
-use mathlib.Core.Path.{_≡_, sym, ap, _∙_}
+use mathlib.Core.Path.{sym, ap, _∙_}
 use borrow.Author.Needs.{needs}
 use Rattle.spec_images.specs.OnImages.{stored}
 use Rattle.code_images.proofs.ImageWritten.{fits-none, fits-some}

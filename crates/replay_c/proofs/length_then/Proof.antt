@@ -1,5 +1,4 @@
 use borrow.Author.Tests.{eq-eqb, ne-eqb}
-use borrow.Author.Needs.{needs}
 use Rattle.replay_c.proofs.length_then.Statement.{statement}
 use Rattle.replay_c.proofs.length_then.Tie as tie
 

@@ -1,5 +1,5 @@
 -- `replay_c::replay_run` meets its contract: the call on the image is the one that is promised; 1 for a record of another length.
-use mathlib.Core.Path.{_≡_, sym, ap, _∙_}
+use mathlib.Core.Path.{ap, _∙_}
 use lib.ListN.{length}
 use borrow.Author.Needs.{needs}
 use Rattle.spec_images.specs.declared.Stored.{Stored}

@@ -1,6 +1,6 @@
--- `code_images::writing::put_whole` meets its contract: the image is written to a scratch array that is long enough, and from there whole or
--- not at all.
-use mathlib.Core.Path.{_≡_, ap, _∙_}
+-- `code_images::writing::put_whole` meets its contract: the image is written to a scratch array that is long enough, and from there whole
+-- or not at all.
+use mathlib.Core.Path.{ap, _∙_}
 use borrow.Author.Needs.{needs}
 use Rattle.base_bytes.specs.Logs.{noted, ends}
 use Rattle.code_notes.proofs.ScratchParts.{Held, held-length, held}
