@@ -20,7 +20,7 @@
  *   A refusal (a number other than 0) changes nothing: no byte at image or log, neither *length nor *used.
  *   An accepted call writes only what is said at its function. Every other lent byte is as it was, those behind the new
  *   image and behind the notes too.
- *   No function keeps a pointer, allocates or prints.
+ *   No function keeps a pointer, allocates or prints. Each takes less than 48 kilobytes of stack (measured, not proved).
  *
  * The kinds of call; a field that a kind doesn't use must be 0, and a timeout of 0 waits for ever
  *    1  tick                                          18  pend on semaphore a, timeout c
