@@ -23,7 +23,7 @@ use Rattle.spec_answers.proofs.Following.{accepted-yields, replayed-kep
 use Rattle.spec_answers.proofs.Following.{undo-given, undo-follows, any-undo-follows}
 
 -- at its start a run follows no calls
-begun : (start : Run) → Follows start [] [] start
+pub begun : (start : Run) → Follows start [] [] start
 begun start =
     let e = sym (append-nil (take (start .used) (start .log))) in
     record { earlier = tt; accepted = tt; state = refl; lent = refl; ends = omega arith; stands = e }

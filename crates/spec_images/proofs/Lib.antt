@@ -7,3 +7,4 @@ pub mod Front
 pub mod Writing
 pub mod OnImages
 pub mod ForC
+pub mod Runs
