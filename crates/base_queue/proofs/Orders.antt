@@ -21,8 +21,8 @@ module _ (key : ℕ → ℕ) where
   -- the bound holds of each member
   pub ordered_low : {low : ℕ} (l : List ℕ) → OrderedFrom low key l → (u : ℕ) → 0 < count u l → low ≤ key u
   ordered_low [] o u c = absurd (omega arith)
-  ordered_low (x ∷ l) o u c =
-      cases (eqb x u) (λ e. rw (← eqb-true x u e) o.0) (λ e. let r = ordered_low l o.1 u (rw e at c) in omega arith)
+  ordered_low {low = low} (x ∷ l) o u c =
+      cases (eqb x u) (λ e. rw (← eqb-true x u e) o.0) (λ e. let r = ordered_low {low = key x} l o.1 u (rw e at c) in omega arith)
 
   -- ---- some are taken out
   keep_from : (low : ℕ) (f : ℕ → Bool) (l : List ℕ) → OrderedFrom low key l → OrderedFrom low key (keep f l)

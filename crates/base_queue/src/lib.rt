@@ -1,4 +1,6 @@
 // Queues with a length, and lists and tables of places with their laws. It knows nothing of kernels.
+#![tactic(auto)]
+
 ghost use Rattle.std.specs.Prelude.{◌≡◌, [], length};
 ghost use Rattle.base_queue.specs.Lists.{without, place_of, first_of};
 ghost use Rattle.base_queue.specs.Queues.{items, pack, front, room_for, is_tidy};

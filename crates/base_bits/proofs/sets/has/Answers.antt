@@ -1,0 +1,14 @@
+-- `base_bits::sets::has` meets its contract. The shift brings bit x down to the lowest digit, and a word has none past the last.
+-- Assumes nothing.
+use borrow.Author.Rules.{rules}
+use mathlib.Core.Path.{sym}
+use native.Mathlib.Omega.{arith}
+use Rattle.base_bits.proofs.Digits.{has_low}
+use Rattle.base_bits.proofs.Members.{has_past}
+use Rattle.base_bits.proofs.sets.has.Goals as goal
+
+pub returns-then-x-lt64 : goal.returns-then-x-lt64
+returns-then-x-lt64 c = sym (has_low _ _)
+
+pub returns-else-x-lt64 : goal.returns-else-x-lt64
+returns-else-x-lt64 c = sym (has_past c.args.set 64 (omega arith) _ c.if-x-lt64.false)

@@ -1,0 +1,17 @@
+-- `base_bits::without_bit` meets its contract. What is taken away is the bit where it is set, and nothing where it is clear.
+-- Assumes nothing.
+use borrow.Author.Rules.{rules}
+use mathlib.Core.Path.{sym}
+use lib.Bits.{and_le_l}
+use Rattle.base_bits.proofs.Digits.{bit_high}
+use Rattle.base_bits.proofs.Laws.{one_shifted, without_and, without_clear}
+use Rattle.base_bits.proofs.without_bit.Goals as goal
+
+pub overflow_sub-result : goal.overflow_sub-result
+overflow_sub-result c = and_le_l c.args.word _
+
+pub returns-then-i-lt32 : goal.returns-then-i-lt32
+returns-then-i-lt32 c = rw (one_shifted 32 _ c.if-i-lt32.true) (sym (without_and _ _ c.if-i-lt32.true))
+
+pub returns-else-i-lt32 : goal.returns-else-i-lt32
+returns-else-i-lt32 c = sym (without_clear _ _ (bit_high _ _ c.if-i-lt32.false))

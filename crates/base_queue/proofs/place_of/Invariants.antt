@@ -1,0 +1,16 @@
+-- `base_queue::place_of` meets its contract: x is not among the i places passed, so its place is i and its place in the rest.
+use Prim.Native.Nat.{ℕ, ◌+◌, ◌-◌}
+use mathlib.Core.Path.{◌≡◌}
+use native.Mathlib.Omega.{arith}
+use lib.ListN.{take, drop}
+use borrow.Author.Rules.{rules}
+use Rattle.base_queue.specs.Lists.{place_of}
+use Rattle.base_queue.proofs.Lists.{place_here, place-next, place_end}
+use Rattle.base_queue.proofs.Queues.{Walk, walk_start, sized_items}
+use Rattle.base_queue.proofs.place_of.Given as goal
+
+abbrev pub invariant-loop-i : goal.invariant-loop-i
+invariant-loop-i l = Walk l.at l.n l.i × (place_of l.x (take l.n l.at) ≡ l.i + place_of l.x (drop l.i (take l.n l.at)))
+
+abbrev pub decreases-loop-i : goal.decreases-loop-i
+decreases-loop-i l = l.n - l.i
