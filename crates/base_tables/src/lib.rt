@@ -1,4 +1,6 @@
 // Whether a table holds each of a set once and nobody else, in the order of a key. It knows nothing of kernels.
+#![tactic(auto)]
+
 ghost use Rattle.std.specs.Prelude.{◌≡◌};
 ghost use Rattle.base_queue.specs.Queues.{items};
 ghost use Rattle.base_tables.specs.Taken.{is_taken, is_table};

@@ -1,0 +1,13 @@
+-- `base_bytes::pens::put_byte` meets its contract: the test is that of `put`.
+use borrow.Author.Rules.{rules}
+use borrow.Author.Tests.{lt-ltb, le-ltb}
+use Rattle.base_bytes.specs.Pens.{put}
+use Rattle.base_bytes.proofs.pens.put_byte.Goals as goal
+
+pub returns-then-at-log : goal.returns-then-at-log
+unfolding put
+returns-then-at-log c = rw (lt-ltb _ _ c.if-at-log.true)
+
+pub returns : goal.returns
+unfolding put
+returns c = rw (le-ltb _ _ c.if-at-log.false)
