@@ -16,11 +16,30 @@ def decls(text):
     if cur: out.append(cur)
     return out
 
+def norm(x):
+    x=x.replace('_','-')
+    return x[:-4] if x.endswith('-lem') else x
+
+class Alike(dict):
+    """a dict whose keys may be spelled with - or _"""
+    def __init__(s, d):
+        super().__init__(d); s.n={norm(k):v for k,v in d.items()}
+    def __missing__(s, k):
+        return s.n[norm(k)]
+    def __contains__(s, k):
+        return k is not None and norm(k) in s.n
+    def get(s, k, d=None):
+        return s.n.get(norm(k), d)
+
 class Fn:
     def __init__(s, rec):
-        s.needs=rec['needs']; s.asked=rec['asked_at']; s.places={p[0]:p for p in rec['places']}
-        s.newplace={p[0]:n for p,n in zip(rec['places'],rec['places_by_name'])}
+        s.needs=rec['needs']; s.asked=rec['asked_at']; s.places=Alike({p[0]:p for p in rec['places']})
+        s.newplace=Alike({p[0]:n for p,n in zip(rec['places'],rec['places_by_name'])})
         s.rec=rec
+        steps={}
+        for p in rec['places']:
+            if p[2][0]: steps.setdefault(norm(p[2][0]),set()).add(p[2][1])
+        s.steps={a:min(b) for a,b in steps.items() if len(b)==1}
     def up(s, place, k):
         for _ in range(k):
             place=s.places[place][1] if place in s.places else None
@@ -42,7 +61,7 @@ def turn_expr(fn, text, env, problems):
             return '\0'+var+'\0'+place+'\0'+str(k)+'\0'
         f=field[1:]
         step=fn.places[place][2]
-        if f==step[0] and step[1]:
+        if norm(f)==norm(step[0]) and step[1]:
             return var+'.'+step[1]
         if f in ('args','requires','ranges','well_formed','good'):
             return var+'.'+f
@@ -50,11 +69,13 @@ def turn_expr(fn, text, env, problems):
         p=place
         while p is not None:
             st=fn.places[p][2]
-            if st[0]==f: return var+'.'+st[1]
+            if norm(st[0])==norm(f): return var+'.'+st[1]
             p=fn.places[p][1]
         problems.append(m[0]+' at '+place)
         return var+'.'+f
-    return CH.sub(sub,text)
+    text=CH.sub(sub,text)
+    # what a helper gives: (next c).loop.k
+    return re.sub(r"(?<=\))((?:\.before)*)\.([a-z][\w-]*)",lambda m: m[1]+'.'+fn.steps.get(norm(m[2]),m[2]),text)
 
 def fn_params(cratedir, rel):
     parts=rel.split('/')
@@ -80,6 +101,8 @@ def convert(names, cratedir, crate, path):
     # variables bound to args: a.tN
     for m in re.finditer(r"let ([\w'₀-₉]+) = c(?:\.before)*\.args in",text):
         text=re.sub(r"(?<![\w.'₀-₉-])"+re.escape(m[1])+r"\.t(\d+)\b",lambda q: m[1]+'.'+params[int(q[1])-1] if int(q[1])<=len(params) else q[0],text)
+    text=re.sub(r"\.inv\b",'.invariant',text.replace('.type-inv','.type_inv'))
+    text=re.sub(r"\.t(\d+)\b",lambda m: '.'+params[int(m[1])-1] if int(m[1])<=len(params) else m[0],text)
     bl=decls(text)
     problems=[]
     head=[];uses=[];items=[]
@@ -163,12 +186,16 @@ def convert(names, cratedir, crate, path):
                 if new is None: problems.append('place '+old); return m[0]
                 usedplaces.add(new)
                 return new
+            body_at=[k for k,l in enumerate(lines) if re.match(re.escape(nm)+r"(?: [^:=]*)? =",l) or l.startswith('unfolding')]
+            sigtext=' '.join(lines[:body_at[0]]) if body_at else t
+            places=by_position(sigtext) if ' : ' in sigtext else []
             t2=re.sub(r"tie\.([A-Z][\w-]*)((?: (?:%s))*)"%('|'.join(map(re.escape,inv)) or 'XXX'),pl,t)
             # body vars: match the clause's params by position with the signature
-            if env:
+            if env or any(places):
                 i=t2.find('\n'+nm+' ')
-                t2=lets(fn,t2[:i+1],env,problems)+clause(fn,t2[i+1:],list(env),env,problems,nm)
+                t2=lets(fn,t2[:i+1],env,problems)+clause(fn,t2[i+1:],list(env),env,problems,nm,places)
             answers.append('\n'.join(comments+[t2]))
+    answers=[re.sub(r"not-(?:true|false) (?:_|[\w.'-]+|\([^()]*\)) ([\w.'-]+\.(?:true|false))(?![\w.'-])",r"\1",a) for a in answers]
     us=[u for u in uses if not re.search(r'\.(Statement|Tie)\b',u)]
     base=f'Rattle.{crate}.proofs.{rel.replace("/",".")}'
     if shared:
@@ -215,11 +242,39 @@ def lets(fn,expr,env,problems,goal=None):
         return root+'.before'*k
     return re.sub(r"\0([^\0]+)\0([^\0]+)\0(\d+)\0",bare,out)
 
-def clause(fn,text,vs,env,problems,nm):
+def parts_of(sig):
+    out=[];depth=0;cur=''
+    for ch in sig:
+        if ch in '({[': depth+=1
+        if ch in ')}]': depth-=1
+        if ch=='→' and depth==0: out.append(cur); cur=''
+        else: cur+=ch
+    return out+[cur]
+
+def by_position(sig):
+    """the place, or None, of each explicit parameter of a signature"""
+    out=[]
+    for part in parts_of(sig.split(' : ',1)[1])[:-1]:
+        part=part.strip()
+        if part.startswith('{'): continue
+        found=[(part,None)]
+        if re.match(r"^\(([\w' ₀-₉]+) : ",part):
+            # several binders may stand side by side
+            found=[]
+            for g in re.finditer(r"\(([\w' ₀-₉]+) : ([^()]*(?:\([^()]*\)[^()]*)*)\)",part):
+                found+=[(g[2],v) for v in g[1].split()]
+        for t,v in found:
+            m=re.match(r"\(?tie\.([A-Z][\w-]*)",t.strip())
+            out.append(m[1] if m else None)
+    return out
+
+def clause(fn,text,vs,env,problems,nm,places):
     """the clause's own names for the parameters, by place in the signature"""
     m=re.match(re.escape(nm)+r"((?: [^=\s]+)*) =",text)
     if not m:
         problems.append('clause '+text[:60]); return text
+    ps=[q for q in m[1].split() if not q.startswith('{')]
+    env={v:pl for v,pl in zip(ps,places) if pl}
     return m[0]+lets(fn,text[m.end():],env,problems)
 
 def inv_text(fn,nm,lines,problems):

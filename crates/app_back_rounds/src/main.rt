@@ -8,14 +8,14 @@ use replay::undos;
 use spec_kernel::records::Kernel;
 
 // A state, and how much of the log is used.
-#[derive(Drop)]
+#[derive(Clone, Copy)]
 struct Run {
     kernel: Kernel,
     used: usize,
 }
 
 // The undos, the bytes that were left and the rounds that ended in the fresh state, of one round or of all so far.
-#[derive(Drop)]
+#[derive(Clone, Copy)]
 struct Total {
     undone: u64,
     left: u64,

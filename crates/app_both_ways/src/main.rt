@@ -7,7 +7,7 @@ use spec_answers::Answer;
 use spec_kernel::records::Kernel;
 
 // Where a run stands: its state, how much of the log is used, and the records seen so far.
-#[derive(Drop)]
+#[derive(Clone, Copy)]
 struct Run {
     kernel: Kernel,
     used: usize,

@@ -5,7 +5,7 @@ use spec_answers::Answer;
 use spec_kernel::records::Kernel;
 
 // Where a run stands: its state, and the records seen so far.
-#[derive(Drop)]
+#[derive(Clone, Copy)]
 struct Run {
     kernel: Kernel,
     serial: u64,

@@ -5,7 +5,7 @@ ghost use Rattle.spec_rules.specs.Rules.{Rules};
 use spec_kernel::records::Kernel;
 
 // The accepted calls and the bytes of their notes, of one round or of all so far.
-#[derive(Drop)]
+#[derive(Clone, Copy)]
 struct Total {
     accepted: u64,
     bytes: u64,

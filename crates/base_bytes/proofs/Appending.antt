@@ -12,13 +12,13 @@ use Rattle.base_bytes.specs.Logs.{room, with_note, noted, ends, shown}
 module _ (log : List ℕ) (used : ℕ) (note : List ℕ) where
   -- With room the note stands between what was before it and what was behind it.
   module _ (h : used + length note ≤ length log) where
-    pub noted-room : noted log used note ≡ with_note log used note
+    pub noted_room : noted log used note ≡ with_note log used note
     unfolding noted
-    noted-room = rw (le-leb (used + length note) (length log) h)
+    noted_room = rw (le-leb (used + length note) (length log) h)
 
-    pub ends-room : ends log used note ≡ used + length note
+    pub ends_room : ends log used note ≡ used + length note
     unfolding ends
-    ends-room = rw (le-leb (used + length note) (length log) h)
+    ends_room = rw (le-leb (used + length note) (length log) h)
 
   -- Without, nothing is written.
   module _ (h : length log < used + length note) where
@@ -26,9 +26,9 @@ module _ (log : List ℕ) (used : ℕ) (note : List ℕ) where
     unfolding noted
     noted_none = rw (lt-leb (used + length note) (length log) h)
 
-    pub ends-none : ends log used note ≡ used
+    pub ends_none : ends log used note ≡ used
     unfolding ends
-    ends-none = rw (lt-leb (used + length note) (length log) h)
+    ends_none = rw (lt-leb (used + length note) (length log) h)
 
   -- What holds with room and without holds.
   either : (P : List ℕ → ℕ → List ℕ → Type 0)

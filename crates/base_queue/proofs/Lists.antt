@@ -47,22 +47,22 @@ module _ {A : Type 0} where
         go true e = ap {B = List A} (λ r. x ∷ r) e
         go false e = e
 
-    pub keep-next : (d : A) (l : List A) (k : ℕ) → k < length l
+    pub keep_next : (d : A) (l : List A) (k : ℕ) → k < length l
         → keep f (take (k + 1) l) ≡ keep f (take k l) ++ cond (f (get_or l k d)) (get_or l k d ∷ []) []
-    keep-next d l k h = rw (add-one, take-suc l k d h, keep_append)
+    keep_next d l k h = rw (add-one, take-suc l k d h, keep_append)
 
   module _ (f : ℕ → A → Bool) (d : A) where
     -- a test of every member says so of each
-    pub every-at : (k : ℕ) (l : List A) → every_from f k l ≡ true → (i : ℕ) → i < length l → f (k + i) (get_or l i d) ≡ true
-    every-at k [] e i h = absurd (omega arith)
-    every-at k (x ∷ l) e zero h = rw add-zero (and_both _ _ e).0
-    every-at k (x ∷ l) e (suc i) h = rw (add-suc, ← suc-add) (every-at (suc k) l (and_both (f k x) _ e).1 i (omega arith))
+    pub every_at : (k : ℕ) (l : List A) → every_from f k l ≡ true → (i : ℕ) → i < length l → f (k + i) (get_or l i d) ≡ true
+    every_at k [] e i h = absurd (omega arith)
+    every_at k (x ∷ l) e zero h = rw add-zero (and_both _ _ e).0
+    every_at k (x ∷ l) e (suc i) h = rw (add-suc, ← suc-add) (every_at (suc k) l (and_both (f k x) _ e).1 i (omega arith))
 
-    pub every-intro : (k : ℕ) (l : List A) → ((i : ℕ) → i < length l → f (k + i) (get_or l i d) ≡ true) → every_from f k l ≡ true
-    every-intro k [] g = refl
-    every-intro k (x ∷ l) g =
+    pub every_intro : (k : ℕ) (l : List A) → ((i : ℕ) → i < length l → f (k + i) (get_or l i d) ≡ true) → every_from f k l ≡ true
+    every_intro k [] g = refl
+    every_intro k (x ∷ l) g =
         let z : f k x ≡ true = rw add-zero at (g 0 (omega arith)) in
-        let r : every_from f (suc k) l ≡ true = every-intro (suc k) l (λ i h. rw (suc-add, ← add-suc) (g (suc i) (omega arith))) in
+        let r : every_from f (suc k) l ≡ true = every_intro (suc k) l (λ i h. rw (suc-add, ← add-suc) (g (suc i) (omega arith))) in
         rw (z, r)
 
   -- a test that does not look at the place may count from anywhere
@@ -85,8 +85,8 @@ module _ (x : ℕ) where
     pub place_here : k < n → k < length l → get_or l k 0 ≡ x → place_of x (drop k (take n l)) ≡ 0
     place_here h e p = rw (rest_next 0 l n k h e, eq-eqb _ _ p)
 
-    pub place-next : k < n → k < length l → (get_or l k 0 ≡ x → ⊥) → place_of x (drop k (take n l)) ≡ 1 + place_of x (drop (k + 1) (take n l))
-    place-next h e p = rw (rest_next 0 l n k h e, ne_eqb _ _ p) (omega arith)
+    pub place_next : k < n → k < length l → (get_or l k 0 ≡ x → ⊥) → place_of x (drop k (take n l)) ≡ 1 + place_of x (drop (k + 1) (take n l))
+    place_next h e p = rw (rest_next 0 l n k h e, ne_eqb _ _ p) (omega arith)
 
     pub place_end : min n (length l) ≤ k → place_of x (drop k (take n l)) ≡ 0
     place_end h = rw (rest_end l n k h)
@@ -123,9 +123,9 @@ module _ (x : ℕ) where
 pub zeros_means : (l : List ℕ) → all_zero l ≡ true → l ≡ replicate (length l) 0
 zeros_means l e =
     ext_get_or 0 l (replicate (length l) 0) (sym (length-replicate (length l) 0))
-    (λ i h. eqb-true _ _ (every-at (λ _ x. eqb x 0) 0 0 l e i h) ∙ sym (get_or-replicate (length l) i 0 0 h))
+    (λ i h. eqb-true _ _ (every_at (λ _ x. eqb x 0) 0 0 l e i h) ∙ sym (get_or-replicate (length l) i 0 0 h))
 
 pub zeros_hold : (n : ℕ) → all_zero (replicate n 0) ≡ true
 zeros_hold n =
-    every-intro (λ _ x. eqb x 0) 0 0 (replicate n 0)
+    every_intro (λ _ x. eqb x 0) 0 0 (replicate n 0)
     (λ i h. eq-eqb _ _ (get_or-replicate n i 0 0 (rw length-replicate at h)))

@@ -14,7 +14,7 @@ use Rattle.base_queue.specs.Tables.{one, Placed, is_placed, moved}
 use Rattle.base_queue.proofs.Counts.{same, below_count, count_below, pigeon}
 use Rattle.base_queue.proofs.Counts.{count_without_same, count_without_other, not_without, keep_past}
 use Rattle.base_queue.proofs.Counts.{count_behind_same, count_behind_other, keep_behind_past}
-use Rattle.base_queue.proofs.Lists.{every-at, every-intro}
+use Rattle.base_queue.proofs.Lists.{every_at, every_intro}
 use Rattle.base_queue.proofs.Orders.{ordered_keep, ordered_keys, ordered_behind}
 
 -- ---- who stands in the table
@@ -29,8 +29,8 @@ module _ (b : ℕ → Bool) (l : List ℕ) where
     placed_past P x h = P x ∙ ap one (past x h)
 
     -- and the table has at most n
-    pub placed-short : Placed b l → length l ≤ n
-    placed-short P = pigeon n l (placed_once P) (placed_past P)
+    pub placed_short : Placed b l → length l ≤ n
+    placed_short P = pigeon n l (placed_once P) (placed_past P)
 
 -- ---- the test over the records: d is what stands past their end, and doesn't belong
 module _ {A : Type 0} (belongs : A → Bool) (records : List A) (d : A) (out : belongs d ≡ false) (l : List ℕ) where
@@ -49,7 +49,7 @@ module _ {A : Type 0} (belongs : A → Bool) (records : List A) (d : A) (out : b
   placed_means h x =
       let (low, all) = (and-eq-true_iff (below (length records) l) (every_from stands 0 records)).0 h in
       cases (ltb x (length records))
-      (λ e. eqb-true (count x l) (one (member x)) (rw zero-add at (every-at stands d 0 records all x (ltb-true x (length records) e))))
+      (λ e. eqb-true (count x l) (one (member x)) (rw zero-add at (every_at stands d 0 records all x (ltb-true x (length records) e))))
       (λ e. below_count (length records) l low (ltb-false x (length records) e)
       ∙ ap one (sym (member_past x (ltb-false x (length records) e))))
 
@@ -58,7 +58,7 @@ module _ {A : Type 0} (belongs : A → Bool) (records : List A) (d : A) (out : b
   unfolding is_placed
   placed_holds P =
       rw (count_below (length records) l (λ x h. P x ∙ ap one (member_past x h)))
-      (every-intro stands d 0 records (λ x _. rw zero-add (eq-eqb (count x l) (one (member x)) (P x))))
+      (every_intro stands d 0 records (λ x _. rw zero-add (eq-eqb (count x l) (one (member x)) (P x))))
 
 -- ---- x moves
 module _ (stays : Bool) (after : ℕ → Bool) (x : ℕ) (l : List ℕ) where

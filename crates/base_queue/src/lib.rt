@@ -10,7 +10,7 @@ pub const CAPACITY: usize = 64;
 
 const LENGTHS: u8 = CAPACITY as u8;
 
-#[derive(Drop)]
+#[derive(Clone, Copy)]
 pub struct Queue {
     pub n: u8,
     pub at: [u8; CAPACITY],

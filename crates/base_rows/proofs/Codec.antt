@@ -94,3 +94,5 @@ row_back (w ∷ ws) (o ∷ os) (p ∷ ps) rest (h, q) e =
     let f = flags_first o p (flags_of os ps) in
     let d = drop_at (field_of w o p) (body_of ws os ps ++ rest) (cond (not (eqb o p)) w 0) (field_used w o p) in
     rw (f.0, f.1, append_assoc, field_back w o p (body_of ws os ps ++ rest) h, d, row_back ws os ps rest q (omega arith))
+row_back [] (o ∷ os) ps rest q e = elim q [ ]
+row_back (w ∷ ws) [] ps rest q e = elim q [ ]

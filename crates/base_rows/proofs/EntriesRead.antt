@@ -145,6 +145,7 @@ module _ {A : Type 0} (own : ℕ → List ℕ → ℕ) (does : ℕ → List ℕ 
       let t = drop (own h s) s in
       let e : 1 + own h s ≡ suc (own h s) = omega arith in
       rw e (enough (length s) (length t) t (does h s a) (simp length-drop (omega arith)) (omega arith))
+  first_entry [] a b = elim b [ ]
 
   pub entries_turn : (s : List ℕ) (p size : ℕ) (a : A) → p < length s
       → size ≡ min (1 + own (get_or (drop p s) 0 0) (drop 1 (drop p s))) (length (drop p s))

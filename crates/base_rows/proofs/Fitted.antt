@@ -16,6 +16,8 @@ pub fitted_fit : (ws xs : List ℕ) → Fit ws xs → fitted ws xs ≡ xs
 unfolding fitted
 fitted_fit [] [] q = refl
 fitted_fit (w ∷ ws) (x ∷ xs) (h, q) = rw (mod-eq_of_lt h, fitted_fit ws xs q)
+fitted_fit [] (x ∷ xs) q = elim q [ ]
+fitted_fit (w ∷ ws) [] q = elim q [ ]
 
 -- Every number is a byte, past the end too.
 abbrev pub Bytes : List ℕ → Type 0
@@ -47,3 +49,5 @@ rows_fit (w ∷ ws) flags (p ∷ ps) s h (b, q) = (
   cases (first_flagged flags) (λ e. rw e (un_small w s h)) (λ e. rw e b),
   rows_fit ws (flags / 2) ps (drop (taken w flags) s) (drop_bytes (taken w flags) s h) q,
 )
+rows_fit [] flags (p ∷ ps) s h q = elim q [ ]
+rows_fit (w ∷ ws) flags [] s h q = elim q [ ]

@@ -7,7 +7,7 @@ ghost use Rattle.base_rows.specs.Rows.{flag_of, field_of, flags_of, body_of, fir
 use base_bytes::bytes::{least, number_at};
 use base_bytes::pens::put_number;
 
-#[derive(Drop)]
+#[derive(Clone, Copy)]
 pub struct Row {
     pub fields: [u32; 8],
 }

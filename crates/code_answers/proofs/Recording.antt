@@ -31,22 +31,22 @@ module _ (k : Kernel) (bytes log : List ℕ) (used : ℕ) where
     zero_number : eqb (number_of k (call_of bytes)) 0 ≡ true
     zero_number = eq-eqb (number_of k (call_of bytes)) 0 n
 
-    pub log-noted : noted log used (note_for k bytes) ≡ log_after k bytes log used
+    pub log_noted : noted log used (note_for k bytes) ≡ log_after k bytes log used
     unfolding log_after
-    log-noted = rw zero_number
+    log_noted = rw zero_number
 
-    pub ends-full : ends log used (note_for k bytes) ≡ used → logged (answer 13 255 k.runner) k used ≡ recorded k bytes log used
+    pub ends_full : ends log used (note_for k bytes) ≡ used → logged (answer 13 255 k.runner) k used ≡ recorded k bytes log used
     unfolding recorded ends note_for
-    ends-full h =
+    ends_full h =
         let (low, _) = note_sizes k bytes (state_after k bytes) sixteen in
         cases (room log used (note_for k bytes))
         (λ e. let w : used + length (note_for k bytes) ≡ used = rw e at h in absurd (omega (arith, w, low))) (λ e. rw (zero_number, e))
 
-    pub ends-noted : (ends log used (note_for k bytes) ≡ used → ⊥)
+    pub ends_noted : (ends log used (note_for k bytes) ≡ used → ⊥)
         → logged (answer 0 (value_of k (call_of bytes)) (state_after k bytes).runner) (state_after k bytes) (ends log used (note_for k bytes))
         ≡ recorded k bytes log used
     unfolding recorded ends
-    ends-noted h = cases (room log used (note_for k bytes)) (λ e. rw (zero_number, e)) (λ e. absurd (h (rw e)))
+    ends_noted h = cases (room log used (note_for k bytes)) (λ e. rw (zero_number, e)) (λ e. absurd (h (rw e)))
 
 -- What a call that is not refused leaves: u the next state, v the value, log' and end the writer's.
 pub record Left (k : Kernel) (bytes log log' : List ℕ) (used end v : ℕ) (u : Kernel) : Type 0 where
@@ -62,7 +62,7 @@ left k bytes log log' used end v u sixteen n e s (l, d) =
     let same : note_of k bytes u ≡ note_for k bytes = rw s in
     let f : end ≡ ends log used (note_for k bytes) = d ∙ ap (ends log used) same in
     record {
-      log_after_lem = l ∙ ap (noted log used) same ∙ log-noted k bytes log used sixteen n;
-      no_room_lem = λ h. rw (eq-eqb end used h) (ends-full k bytes log used sixteen n (sym f ∙ h));
-      with_room = λ h. rw (ne_eqb end used h, s, e, f) (ends-noted k bytes log used sixteen n (λ z. h (f ∙ z)));
+      log_after_lem = l ∙ ap (noted log used) same ∙ log_noted k bytes log used sixteen n;
+      no_room_lem = λ h. rw (eq-eqb end used h) (ends_full k bytes log used sixteen n (sym f ∙ h));
+      with_room = λ h. rw (ne_eqb end used h, s, e, f) (ends_noted k bytes log used sixteen n (λ z. h (f ∙ z)));
     }

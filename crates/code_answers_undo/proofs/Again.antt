@@ -10,7 +10,7 @@ use lib.Seq.{take_at, take-nil}
 use borrow.Author.Tests.{eqb-true, eq-eqb, le-leb, ltb-true, ltb-false, leb-true}
 use borrow.Table.Steps.{cases}
 use Rattle.base_bytes.specs.Bytes.{un}
-use Rattle.base_bytes.proofs.Appending.{noted-room}
+use Rattle.base_bytes.proofs.Appending.{noted_room}
 use Rattle.spec_kernel.specs.declared.records.Kernel.{Kernel}
 use Rattle.spec_rules.specs.declared.tests.Asked.{Asked}
 use Rattle.spec_rules.specs.Tests.{keeps_asked}
@@ -47,29 +47,29 @@ module _ (k : Kernel) (bytes : List ℕ) (sixteen : length bytes ≡ 16) (s : Lo
       (λ z. absurd (h (ap (λ (x : Logged). x.answer.number) e ∙ rw (z, le-leb _ _ room_for_any)))) (λ z. z)
 
   module _ (z : s.answer.number ≡ 0) where
-    pub run-accepted : (number_of k (call_of bytes) ≡ 0) ×
+    pub run_accepted : (number_of k (call_of bytes) ≡ 0) ×
         (s ≡ logged (answer 0 (value_of k (call_of bytes)) (state_after k bytes).runner) (state_after k bytes) (0 + length (note_for k bytes)))
     unfolding recorded
-    run-accepted =
+    run_accepted =
         cases (eqb (number_of k (call_of bytes)) 0)
         (λ y. (eqb-true (number_of k (call_of bytes)) 0 y, e ∙ rw (y, le-leb _ _ room_for_any)))
         (λ y. let n : number_of k (call_of bytes) ≡ 0 = sym (ap (λ (x : Logged). x.answer.number) e ∙ rw y) ∙ z in
         absurd (false≢true (sym y ∙ eq-eqb (number_of k (call_of bytes)) 0 n)))
 
-    pub run-next : s.kernel ≡ state_after k bytes
-    run-next = ap (λ (x : Logged). x.kernel) run-accepted.1
+    pub run_next : s.kernel ≡ state_after k bytes
+    run_next = ap (λ (x : Logged). x.kernel) run_accepted.1
 
     -- the note stands at the front of the log
-    pub note-stands : (log : List ℕ) → log ≡ log_after k bytes (replicate longest_note 0) 0
+    pub note_stands : (log : List ℕ) → log ≡ log_after k bytes (replicate longest_note 0) 0
         → (s.used ≤ length log) × (take s.used log ≡ note_for k bytes) × (s.used ≡ length (note_for k bytes))
     unfolding log_after
-    note-stands log f =
-        let (n, a) = run-accepted in
+    note_stands log f =
+        let (n, a) = run_accepted in
         let y = eq-eqb (number_of k (call_of bytes)) 0 n in
         let v : s.used ≡ 0 + length (note_for k bytes) = ap (λ (x : Logged). x.used) a in
         let u : s.used ≡ length (note_for k bytes) = omega (arith, v) in
         let g : log ≡ note_for k bytes ++ drop (0 + length (note_for k bytes)) (replicate longest_note 0) =
-        f ∙ rw (y, noted-room (replicate longest_note 0) 0 (note_for k bytes) room_for_any) in
+        f ∙ rw (y, noted_room (replicate longest_note 0) 0 (note_for k bytes) room_for_any) in
         (rw (g, length-append, u) (omega arith), rw (g, u) (take_at (note_for k bytes) _ _ refl), u)
 
 module _ (a : Asked) (k : Kernel) (bytes : List ℕ) (end : Kernel) (note : List ℕ) where
@@ -78,14 +78,14 @@ module _ (a : Asked) (k : Kernel) (bytes : List ℕ) (end : Kernel) (note : List
   levels_pass e = rw e
 
   module _ (l : levels_fit k ≡ true) where
-    pub again-broken : keeps_asked a k ≡ false → false ≡ yields_asked a k bytes end note
+    pub again_broken : keeps_asked a k ≡ false → false ≡ yields_asked a k bytes end note
     unfolding yields_asked
-    again-broken e = rw (l, e)
+    again_broken e = rw (l, e)
 
     module _ (r : keeps_asked a k ≡ true) where
-      pub again-refused : eqb (number_of k (call_of bytes)) 0 ≡ false → false ≡ yields_asked a k bytes end note
+      pub again_refused : eqb (number_of k (call_of bytes)) 0 ≡ false → false ≡ yields_asked a k bytes end note
       unfolding yields_asked
-      again-refused n = rw (l, r, n)
+      again_refused n = rw (l, r, n)
 
       module _ (n : number_of k (call_of bytes) ≡ 0) where
         pub again-other : false ≡ same_row (note_for k bytes) note → false ≡ yields_asked a k bytes end note
@@ -114,24 +114,24 @@ module _ (k : Kernel) (note : List ℕ) where
 
   module _ (x : List (List ℕ)) (e : frames_of note ≡ sections x) where
     -- a note that has a frame has its call record
-    pub framed-size : 16 ≤ length note
+    pub framed_size : 16 ≤ length note
     unfolding frames_of section_bytes
-    framed-size =
+    framed_size =
         cases (ltb (length note) 16)
         (λ b. let n : drop 16 note ≡ [] = drop_of_length-le note {i = 16} (omega (arith, ltb-true (length note) 16 b)) in
         let f : nothing ≡ sections x = rw (n, take-nil, none_whole) at e in
         absurd (false≢true (ap is_decoded f))) (λ b. ltb-false (length note) 16 b)
 
-    pub framed-back : back_from k note ≡ state_before (call_of (call_bytes note)) k x
+    pub framed_back : back_from k note ≡ state_before (call_of (call_bytes note)) k x
     unfolding back_from
-    framed-back = rw e
+    framed_back = rw e
 
     abbrev pub asked : Kernel → Bool
     asked old = yields_asked (asked_by (call_of (call_bytes note)) x) old (call_bytes note) k note
 
-    pub framed-undoes : undoes_note_kept k note ≡ asked (state_before (call_of (call_bytes note)) k x)
+    pub framed_undoes : undoes_note_kept k note ≡ asked (state_before (call_of (call_bytes note)) k x)
     unfolding undoes_note_kept back_from
-    framed-undoes = rw e
+    framed_undoes = rw e
 
     -- what comes back of the note, by the two tests of the state before
     module _ (before used : ℕ) where
@@ -144,13 +144,13 @@ module _ (k : Kernel) (note : List ℕ) where
           (logged (answer 15 255 k.runner) k used)
 
       pub left_other : asked old ≡ false → logged (answer 15 255 k.runner) k used ≡ left
-      left_other h = rw (framed-undoes, h)
+      left_other h = rw (framed_undoes, h)
 
-      pub left-unfit : levels_fit old ≡ false → logged (answer 15 255 k.runner) k used ≡ left
-      left-unfit h = left_other (levels_pass _ old (call_bytes note) k note h)
+      pub left_unfit : levels_fit old ≡ false → logged (answer 15 255 k.runner) k used ≡ left
+      left_unfit h = left_other (levels_pass _ old (call_bytes note) k note h)
 
       pub left_back : asked old ≡ true → logged (answer 0 255 old.runner) old before ≡ left
-      left_back h = rw (framed-undoes, h, framed-back)
+      left_back h = rw (framed_undoes, h, framed_back)
 
 -- the two fields of what is read back
 pub back_parts : (c : Call) (k : Kernel) (x : List (List ℕ)) (r : Back) → r ≡ back_of c k x

@@ -42,15 +42,15 @@ module _ (events : List Event) (bits : ℕ) where
     one_more_lem = rw (add-one, work_next i 0 p, zero-add, w)
 
     -- it is TRUE and somebody waits for it
-    pub work-true : (is_true bits (get_or events i no_event) && not (is_empty (at_home_in q (home of_events i)))) ≡ true
+    pub work_true : (is_true bits (get_or events i no_event) && not (is_empty (at_home_in q (home of_events i)))) ≡ true
         → woken_in (home of_events i) q ≡ work_out_from events bits 0 (i + 1) p
     unfolding work_out
-    work-true e = sym (rw (one_more_lem, and_left (is_true bits (get_or events i no_event)) _ e))
+    work_true e = sym (rw (one_more_lem, and_left (is_true bits (get_or events i no_event)) _ e))
 
     -- or it is FALSE, or nobody waits
-    pub work-false : (is_true bits (get_or events i no_event) && not (is_empty (at_home_in q (home of_events i)))) ≡ false
+    pub work_false : (is_true bits (get_or events i no_event) && not (is_empty (at_home_in q (home of_events i)))) ≡ false
         → q ≡ work_out_from events bits 0 (i + 1) p
     unfolding work_out
-    work-false e =
+    work_false e =
         cases (is_true bits (get_or events i no_event)) (λ t. sym (rw (one_more_lem, t) (woken_nobody _ q (not-false _ (rw t at e)))))
         (λ t. sym (rw (one_more_lem, t)))

@@ -14,9 +14,9 @@ module _ (s : List ℕ) where
   read_broken e = rw e
 
   module _ (kept : keeps_rules (state_in s) ≡ true) where
-    pub read-other : same_row (image_of (state_in s)) s ≡ false → recalled 16 fresh ≡ read_from s
+    pub read_other : same_row (image_of (state_in s)) s ≡ false → recalled 16 fresh ≡ read_from s
     unfolding read_from is_image
-    read-other e = rw (kept, e)
+    read_other e = rw (kept, e)
 
     pub read_same : same_row (image_of (state_in s)) s ≡ true → recalled 0 (state_in s) ≡ read_from s
     unfolding read_from is_image

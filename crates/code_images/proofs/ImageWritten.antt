@@ -33,14 +33,14 @@ module _ (k : Kernel) (lent : List ℕ) where
   stored_broken e = (rw e, rw e)
 
   module _ (kept : keeps_rules k ≡ true) where
-    pub lent-then : noted lent 0 (image_of k) ≡ lent_then k lent
+    pub lent_then_lem : noted lent 0 (image_of k) ≡ lent_then k lent
     unfolding lent_then
-    lent-then = rw kept
+    lent_then_lem = rw kept
 
-    pub stored-none : ends lent 0 (image_of k) ≡ 0 → written 13 0 ≡ stored_in k lent
+    pub stored_none : ends lent 0 (image_of k) ≡ 0 → written 13 0 ≡ stored_in k lent
     unfolding stored_in
-    stored-none h = rw (kept, fits_none h)
+    stored_none h = rw (kept, fits_none h)
 
-    pub stored-whole : (ends lent 0 (image_of k) ≡ 0 → ⊥) → written 0 (ends lent 0 (image_of k)) ≡ stored_in k lent
+    pub stored_whole : (ends lent 0 (image_of k) ≡ 0 → ⊥) → written 0 (ends lent 0 (image_of k)) ≡ stored_in k lent
     unfolding stored_in
-    stored-whole h = let (e, n) = fits_some h in rw (kept, e, n)
+    stored_whole h = let (e, n) = fits_some h in rw (kept, e, n)

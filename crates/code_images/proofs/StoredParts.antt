@@ -33,21 +33,21 @@ module _ (k : Kernel) {none : Kernel} (f : none ≡ fresh) where
       ∙ sym (puts_append p (le 4 k.bits) (event_entries k.events fresh_events 0 event_count))
 
   module _ {c : Call} (e : c ≡ no_call) where
-    pub threads-stored : thread_entries c k.runner (threads_of k) none.threads 0 thread_count ≡ threads_stored k
+    pub threads_stored_lem : thread_entries c k.runner (threads_of k) none.threads 0 thread_count ≡ threads_stored k
     unfolding threads_stored fresh
-    threads-stored =
+    threads_stored_lem =
         ap (λ x. thread_entries x k.runner (threads_of k) none.threads 0 thread_count) e
         ∙ ap (λ (u : Kernel). thread_entries no_call k.runner (threads_of k) u.threads 0 thread_count) f
 
-    pub semaphores-stored : semaphore_entries c k.semaphores none.semaphores 0 semaphore_count ≡ semaphores_stored k
+    pub semaphores_stored_lem : semaphore_entries c k.semaphores none.semaphores 0 semaphore_count ≡ semaphores_stored k
     unfolding semaphores_stored fresh
-    semaphores-stored =
+    semaphores_stored_lem =
         ap (λ x. semaphore_entries x k.semaphores none.semaphores 0 semaphore_count) e
         ∙ ap (λ (u : Kernel). semaphore_entries no_call k.semaphores u.semaphores 0 semaphore_count) f
 
-    pub messages-stored : message_entries c 255 (posts_of k) none.messages 0 message_count ≡ messages_stored k
+    pub messages_stored_lem : message_entries c 255 (posts_of k) none.messages 0 message_count ≡ messages_stored k
     unfolding messages_stored fresh
-    messages-stored =
+    messages_stored_lem =
         ap (λ x. message_entries x 255 (posts_of k) none.messages 0 message_count) e
         ∙ ap (λ (u : Kernel). message_entries no_call 255 (posts_of k) u.messages 0 message_count) f
 

@@ -16,7 +16,7 @@ use Rattle.spec_notes.specs.Within.{AreBytes}
 use Rattle.spec_answers.specs.declared.Logged.{Logged}
 use Rattle.spec_answers.specs.Steps.{answer}
 use Rattle.spec_answers.specs.Logs.{recorded, log_after, called_with, log_called, undone_kept}
-use Rattle.spec_answers.proofs.Undos.{undone-kept}
+use Rattle.spec_answers.proofs.Undos.{undone_kept_lem}
 use Rattle.spec_images.specs.declared.Recalled.{Recalled}
 use Rattle.spec_images.specs.declared.Stored.{Stored}
 use Rattle.spec_images.specs.Images.{image_of, recalled}
@@ -33,9 +33,9 @@ module _ (l : Logged) (k : Kernel) (lent : List ℕ) (n used : ℕ) where
   kept_refused h = rw (ne_eqb l.answer.number 0 h) (refl, refl)
 
   module _ (z : l.answer.number ≡ 0) where
-    pub kept-short : fits l.kernel lent ≡ false
+    pub kept_short : fits l.kernel lent ≡ false
         → Kept (stored (answer 13 255 k.runner) n used) (noted lent 0 (image_of l.kernel))
-    kept-short h = rw (eq-eqb l.answer.number 0 z, h) (refl, refl)
+    kept_short h = rw (eq-eqb l.answer.number 0 z, h) (refl, refl)
 
     pub kept_new : fits l.kernel lent ≡ true
         → Kept (stored l.answer (length (image_of l.kernel)) l.used) (noted lent 0 (image_of l.kernel))
@@ -45,8 +45,8 @@ module _ (l : Logged) (k : Kernel) (lent : List ℕ) (n used : ℕ) where
 module _ (lent : List ℕ) (n : ℕ) where
   module _ (r : Recalled) (e : r ≡ cond (holds_image lent n) (recalled 0 (state_at lent n)) (recalled 16 fresh)) where
     -- 16 came back
-    pub not-read : (r.number ≡ 0 → ⊥) → holds_image lent n ≡ false
-    not-read h = cases (holds_image lent n) (λ i. absurd (h (ap (λ (x : Recalled). x.number) e ∙ rw i))) (λ i. i)
+    pub not_read : (r.number ≡ 0 → ⊥) → holds_image lent n ≡ false
+    not_read h = cases (holds_image lent n) (λ i. absurd (h (ap (λ (x : Recalled). x.number) e ∙ rw i))) (λ i. i)
 
     -- or the state
     pub was_read : r.number ≡ 0 → (holds_image lent n ≡ true) × (r.kernel ≡ state_at lent n)
@@ -56,33 +56,33 @@ module _ (lent : List ℕ) (n : ℕ) where
 
   -- ---- a call
   module _ (bytes log : List ℕ) (used : ℕ) where
-    pub call-damaged : holds_image lent n ≡ false
+    pub call_damaged : holds_image lent n ≡ false
         → (stored (answer 16 255 255) n used ≡ called_on lent n bytes log used) × (lent ≡ lent_called lent n bytes log used)
         × (log ≡ log_called_on lent n bytes log used)
     unfolding called_on lent_called log_called_on
-    call-damaged e = rw e (refl, refl, refl)
+    call_damaged e = rw e (refl, refl, refl)
 
     module _ (B : AreBytes lent) (e : holds_image lent n ≡ true) (k : Kernel) (f : k ≡ state_at lent n) where
       keeps : keeps_rules (state_at lent n) ≡ true
       keeps = let (_, (K, _)) = found lent n B e in rules_hold (state_at lent n) K.types.sized K.rules
 
-      pub call-found : (keeping (recorded k bytes log used) k lent n used ≡ called_on lent n bytes log used)
+      pub call_found : (keeping (recorded k bytes log used) k lent n used ≡ called_on lent n bytes log used)
           × (keeping_in (recorded k bytes log used) lent ≡ lent_called lent n bytes log used)
           × (cond (fits (recorded k bytes log used).kernel lent) (log_after k bytes log used) log ≡ log_called_on lent n bytes log used)
       unfolding called_on lent_called log_called_on called_with log_called
-      call-found = rw (f, e, keeps) (refl, refl, refl)
+      call_found = rw (f, e, keeps) (refl, refl, refl)
 
   -- ---- an undo
   module _ (log : List ℕ) (used : ℕ) where
-    pub undo-damaged : holds_image lent n ≡ false
+    pub undo_damaged : holds_image lent n ≡ false
         → (stored (answer 16 255 255) n used ≡ undone_on lent n log used) × (lent ≡ lent_undone lent n log used)
     unfolding undone_on lent_undone
-    undo-damaged e = rw e (refl, refl)
+    undo_damaged e = rw e (refl, refl)
 
-    pub undo-found : AreBytes lent → AreBytes log → holds_image lent n ≡ true → (k : Kernel) → k ≡ state_at lent n
+    pub undo_found : AreBytes lent → AreBytes log → holds_image lent n ≡ true → (k : Kernel) → k ≡ state_at lent n
         → (keeping (undone_kept k log used) k lent n used ≡ undone_on lent n log used)
         × (keeping_in (undone_kept k log used) lent ≡ lent_undone lent n log used)
     unfolding undone_on lent_undone
-    undo-found B L e k f =
+    undo_found B L e k f =
         let (_, (K, _)) = found lent n B e in
-        rw (f, e, undone-kept (state_at lent n) log used K.types L K.rules) (refl, refl)
+        rw (f, e, undone_kept_lem (state_at lent n) log used K.types L K.rules) (refl, refl)

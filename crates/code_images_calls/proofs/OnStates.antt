@@ -61,23 +61,23 @@ module _ (k : Kernel) (bytes log : List ℕ) (used : ℕ) (lent : List ℕ) (n :
 
   module _ (z : number_of k (call_of bytes) ≡ 0) where
     -- no room for the note
-    pub left-note : room log used (note_for k bytes) ≡ false → Left (stored (answer 13 255 k.runner) n used) lent log
+    pub left_note : room log used (note_for k bytes) ≡ false → Left (stored (answer 13 255 k.runner) n used) lent log
     unfolding recorded log_after noted
-    left-note h = rw (z, h) (refl, refl, same_log (fits k lent))
+    left_note h = rw (z, h) (refl, refl, same_log (fits k lent))
 
     -- or for the image
-    pub left-image : fits (state_after k bytes) lent ≡ false
+    pub left_image : fits (state_after k bytes) lent ≡ false
         → Left (stored (answer 13 255 k.runner) n used) (noted lent 0 (image_of (state_after k bytes))) log
     unfolding recorded log_after noted
-    left-image h =
+    left_image h =
         cases (room log used (note_for k bytes)) (λ e. rw (z, e, h) (refl, refl, refl))
         (λ e. rw (z, e, h) (refl, refl, same_log (fits k lent)))
 
     -- or for both
-    pub both-kept : room log used (note_for k bytes) ≡ true → fits (state_after k bytes) lent ≡ true
+    pub both_kept : room log used (note_for k bytes) ≡ true → fits (state_after k bytes) lent ≡ true
         → Left (stored (answer 0 (value_of k (call_of bytes)) (state_after k bytes).runner) (length (image_of (state_after k bytes)))
         (used + length (note_for k bytes)))
         (noted lent 0 (image_of (state_after k bytes)))
         (noted log used (note_for k bytes))
     unfolding recorded log_after noted
-    both-kept e h = rw (z, e, h) (refl, refl, refl)
+    both_kept e h = rw (z, e, h) (refl, refl, refl)

@@ -22,19 +22,19 @@ within b {k} {n} e = cases b (λ t. let z : k ≡ n = e ∙ rw t in omega arith)
 module _ {A : Type 0} (live : A → Bool) (l : List A) {n : ℕ} (i : ℕ) (w : Passed live l n i) where
   module _ (d : A) (h : i < n) where
     -- the record at i is free
-    pub free-here : live (get_or l i d) ≡ false → i ≡ lowest_free live 0 l
-    free-here e = rw (w.2, drop-cons l i d (omega arith), e)
+    pub free_here : live (get_or l i d) ≡ false → i ≡ lowest_free live 0 l
+    free_here e = rw (w.2, drop-cons l i d (omega arith), e)
 
     -- or it is live, and the search goes on
-    pub free-next : live (get_or l i d) ≡ true → Passed live l n (i + 1)
-    free-next e = (w.0, omega arith, w.2 ∙ rw (drop-cons l i d (omega arith), e, add-one))
+    pub free_next : live (get_or l i d) ≡ true → Passed live l n (i + 1)
+    free_next e = (w.0, omega arith, w.2 ∙ rw (drop-cons l i d (omega arith), e, add-one))
 
   -- only the last record is left, and it is free
   pub free_last : (d : A) (k : ℕ) → k ≡ cond (live (get_or l (n - 1) d)) n (n - 1) → i ≡ k → i < n → i ≡ lowest_free live 0 l
   free_last d k e s h =
       cases (live (get_or l (n - 1) d))
       (λ t. let z : k ≡ n = e ∙ rw t in absurd (omega arith))
-      (λ f. let z : k ≡ n - 1 = e ∙ rw f in let j : i ≡ n - 1 = s ∙ z in free-here d h (ap (λ (m : ℕ). live (get_or l m d)) j ∙ f))
+      (λ f. let z : k ≡ n - 1 = e ∙ rw f in let j : i ≡ n - 1 = s ∙ z in free_here d h (ap (λ (m : ℕ). live (get_or l m d)) j ∙ f))
 
   -- every record is live
   pub free_end : n ≤ i → 255 ≡ lowest_free live 0 l
@@ -50,8 +50,8 @@ module _ (word n i : ℕ) (w : PassedBits word n i) where
     more = omega arith
 
     -- bit i is clear
-    pub clear-here : bit_at word i ≡ false → i ≡ lowest_clear word 0 n
-    clear-here e = rw (w.1, more, e)
+    pub clear_here : bit_at word i ≡ false → i ≡ lowest_clear word 0 n
+    clear_here e = rw (w.1, more, e)
 
     -- or it is set, and the search goes on
     pub clear_next : bit_at word i ≡ true → PassedBits word n (i + 1)

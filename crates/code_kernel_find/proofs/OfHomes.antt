@@ -29,12 +29,12 @@ module _ (f : ℕ → Bool) (q : Queue) (n : ℕ) (s : n ≡ length (items q)) w
 
   module _ (i : ℕ) (w : Search f q.at n i) where
     -- the member at i is the first
-    pub keep-here : i < n → f (get_or q.at i 0) ≡ true → get_or q.at i 0 ≡ first_of (keep f (items q))
-    keep-here h e = rw (sized_items q n s, w.1, rest_next 0 q.at n i h (omega arith), e)
+    pub keep_here : i < n → f (get_or q.at i 0) ≡ true → get_or q.at i 0 ≡ first_of (keep f (items q))
+    keep_here h e = rw (sized_items q n s, w.1, rest_next 0 q.at n i h (omega arith), e)
 
     -- or f does not hold of it, and the search goes on
-    pub keep-skip : i < n → f (get_or q.at i 0) ≡ false → Search f q.at n (i + 1)
-    keep-skip h e = (omega arith, w.1 ∙ rw (rest_next 0 q.at n i h (omega arith), e))
+    pub keep_skip : i < n → f (get_or q.at i 0) ≡ false → Search f q.at n (i + 1)
+    keep_skip h e = (omega arith, w.1 ∙ rw (rest_next 0 q.at n i h (omega arith), e))
 
     -- f holds of none
     pub keep_none : n ≤ i → 255 ≡ first_of (keep f (items q))

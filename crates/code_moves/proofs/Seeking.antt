@@ -6,7 +6,7 @@ use native.Mathlib.Omega.{arith}
 use lib.ListN.{length, get_or}
 use Rattle.base_queue.specs.declared.Queue.{Queue}
 use Rattle.base_queue.specs.Queues.{capacity, items}
-use Rattle.spec_moves.proofs.Joins.{past_end, place_above, Seek, seek_starts, seek-stops, seek-goes, seek-ends}
+use Rattle.spec_moves.proofs.Joins.{past_end, place_above, Seek, seek_starts, seek_stops, seek_goes, seek_ends}
 
 -- the value of member u, which past the records is that of `none`
 abbrev pub value_at : {A : Type 0} → (A → ℕ) → A → List A → ℕ → ℕ
@@ -28,11 +28,11 @@ module _ {A : Type 0} {value : A → ℕ} {none : A} {records : List A} {rank n 
   module _ {i : ℕ} (w : Seeks value none records rank q.at n i) where
     -- `other` is the value of the member at i
     module _ {other : ℕ} (m : other ≡ value_at value none records (get_or q.at i 0)) (h : i < n) where
-      pub seeks-stops : rank < other → i ≡ place_above (value_at value none records) rank (items q)
-      seeks-stops p = seek-stops _ rank q n s i w.passed h (omega arith)
+      pub seeks_stops : rank < other → i ≡ place_above (value_at value none records) rank (items q)
+      seeks_stops p = seek_stops _ rank q n s i w.passed h (omega arith)
 
-      pub seeks-goes : other ≤ rank → Seeks value none records rank q.at n (i + 1)
-      seeks-goes p = record { passed = seek-goes _ rank q n s i w.passed h (omega arith) }
+      pub seeks_goes : other ≤ rank → Seeks value none records rank q.at n (i + 1)
+      seeks_goes p = record { passed = seek_goes _ rank q n s i w.passed h (omega arith) }
 
-    pub seeks-ends : n ≤ i → n ≡ place_above (value_at value none records) rank (items q)
-    seeks-ends h = seek-ends _ rank q n s i w.passed h
+    pub seeks_ends : n ≤ i → n ≡ place_above (value_at value none records) rank (items q)
+    seeks_ends h = seek_ends _ rank q n s i w.passed h

@@ -41,10 +41,10 @@ module _ (k : Kernel) (bytes : List ℕ) (k' : Kernel) where
         )
 
     -- a front and its length behind it are the note: m and n from the front's writer, q from the number's
-    pub note-closed : (l m : List ℕ) (n : ℕ) (q : Pen) → longest_note ≤ length l → pen m n ≡ puts (pen l 0) (before_length k bytes k')
+    pub note_closed : (l m : List ℕ) (n : ℕ) (q : Pen) → longest_note ≤ length l → pen m n ≡ puts (pen l 0) (before_length k bytes k')
         → q ≡ puts (pen m n) (le 2 (min n longest_note + 2)) → q ≡ puts (pen l 0) (note_of k bytes k')
     unfolding note_of
-    note-closed l m n q room e f =
+    note_closed l m n q room e f =
         let front = before_length k bytes k' in
         let short : length front + 2 ≤ longest_note = rw (length-append, length_le) at note_short in
         let (z, _) = front_written l m front n e (omega (arith, short, room)) in

@@ -22,7 +22,7 @@ use Rattle.spec_calls.specs.declared.call.Call.{Call}
 use Rattle.spec_calls.specs.Kinds.{the_runner, the_waiter, the_new, the_taken, anybody, kind_of, names, id_named}
 use Rattle.spec_notes.specs.Sections.{thread_entries, semaphore_entries, bit_noted, event_entries, message_entries}
 use Rattle.code_notes_spans.specs.Spans.{Span, span, alone, span_of, in_span, thread_span, semaphore_span, event_span, message_span}
-use Rattle.spec_notes.proofs.EntriesShort.{threads-run, semaphores-run, bit_short, events_run, messages-run}
+use Rattle.spec_notes.proofs.EntriesShort.{threads_run, semaphores_run, bit_short, events_run, messages_run}
 
 -- what was written to the front of an array that is long enough: that it stands there, and how far it goes
 pub composed : (l m part : List ℕ) (r : ℕ) → pen m r ≡ puts (pen l 0) part → length part ≤ length l
@@ -110,13 +110,13 @@ module _ (c : Call) where
       → length (in_span (thread_span c runner value waiter) (thread_entries c runner old new)) ≤ 15 * thread_count
   threads_short runner waiter old new value =
       let s = thread_span c runner value waiter in
-      omega (arith, thread_inside c runner value waiter, threads-run c old new runner s.first s.count)
+      omega (arith, thread_inside c runner value waiter, threads_run c old new runner s.first s.count)
 
   pub semaphores_short : (old new : List Semaphore) (value : ℕ)
       → length (in_span (semaphore_span c value) (semaphore_entries c old new)) ≤ 15 * semaphore_count
   semaphores_short old new value =
       let s = semaphore_span c value in
-      omega (arith, semaphore_inside c value, semaphores-run c old new s.first s.count)
+      omega (arith, semaphore_inside c value, semaphores_run c old new s.first s.count)
 
   pub events_short : (bits after : ℕ) (old new : List Event)
       → length (bit_noted bits after ++ in_span (event_span c) (event_entries old new)) ≤ 1 + 11 * event_count
@@ -128,4 +128,4 @@ module _ (c : Call) where
       → length (in_span (message_span c value) (message_entries c runner old new)) ≤ 17 * message_count
   messages_short runner old new value =
       let s = message_span c value in
-      omega (arith, message_inside c value, messages-run c runner old new s.first s.count)
+      omega (arith, message_inside c value, messages_run c runner old new s.first s.count)

@@ -23,7 +23,7 @@ use spec_kernel::records::Kernel;
 use spec_moves::parts::{Posts, Threads};
 
 // A level that isn't a byte belongs to no state: then the state after is handed back.
-#[derive(Drop)]
+#[derive(Clone, Copy)]
 pub struct Back {
     pub fits: bool,
     pub kernel: Kernel,

@@ -25,14 +25,14 @@ pub const MESSAGES_AT: usize = 5;
 pub const LEAST: usize = 16 + 2 * SECTIONS + 2;
 
 // A part of the note: where it begins, and where it ends.
-#[derive(Drop)]
+#[derive(Clone, Copy)]
 pub struct Part {
     pub from: usize,
     pub to: usize,
 }
 
 // The sections fill a part of the note; an enum holds no array, so each is found by going over those before it.
-#[derive(Drop)]
+#[derive(Clone, Copy)]
 pub enum Decoded {
     Nothing,
     Sections(Part),

@@ -21,7 +21,7 @@ use spec_kernel::sizes;
 const PLACES: u32 = CAPACITY as u32;
 
 // The records, who was touched, and who stood at each place.
-#[derive(Drop)]
+#[derive(Clone, Copy)]
 pub struct Filing {
     pub messages: [Message; sizes::MESSAGES],
     pub out: [u8; CAPACITY],

@@ -26,11 +26,11 @@ module _ {A : Type 0} (test : A → A → Bool) where
 
   -- the next pair decides, or passes
   module _ (none : A) (a b : List A) {n : ℕ} (i : ℕ) (w : Pairs test a b n i) (h : i < n) where
-    pub pairs-stop : test (get_or a i none) (get_or b i none) ≡ false → false ≡ same_all test a b
-    pairs-stop p = rw (w.3, drop-cons a i none (omega arith), drop-cons b i none (omega arith), p)
+    pub pairs_stop : test (get_or a i none) (get_or b i none) ≡ false → false ≡ same_all test a b
+    pairs_stop p = rw (w.3, drop-cons a i none (omega arith), drop-cons b i none (omega arith), p)
 
-    pub pairs-go : test (get_or a i none) (get_or b i none) ≡ true → Pairs test a b n (i + 1)
-    pairs-go p =
+    pub pairs_go : test (get_or a i none) (get_or b i none) ≡ true → Pairs test a b n (i + 1)
+    pairs_go p =
         (w.0, w.1, omega arith, w.3 ∙ rw (drop-cons a i none (omega arith), drop-cons b i none (omega arith), p, add-one))
 
 -- two rows are the same where all their numbers are

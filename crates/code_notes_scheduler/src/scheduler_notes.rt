@@ -9,7 +9,7 @@ use base_rows::entries::put_unless_predicted;
 use spec_calls::call::Call;
 
 // Both levels, and who runs.
-#[derive(Drop)]
+#[derive(Clone, Copy)]
 pub struct Levels {
     pub unscheduled: u8,
     pub critical: u8,

@@ -19,13 +19,13 @@ pub data Part (touched : ℕ → Bool) (n : ℕ) : Span → Type 0 where
 
 module _ (touched : ℕ → Bool) (entry : ℕ → List ℕ) where
   module _ (x : ℕ) (only : (i : ℕ) → touched i ≡ true → i ≡ x) where
-    entries-lone : (i n : ℕ) → i ≤ x → x < i + n → entries_from touched entry i n ≡ entries_from touched entry x 1
-    entries-lone i zero a b = absurd (omega arith)
-    entries-lone i (suc n) a b =
+    entries_lone : (i n : ℕ) → i ≤ x → x < i + n → entries_from touched entry i n ≡ entries_from touched entry x 1
+    entries_lone i zero a b = absurd (omega arith)
+    entries_lone i (suc n) a b =
         cases (eqb i x)
         (λ e. rw (eqb-true i x e, entries_none touched entry (suc x) n (λ j a _ t. omega (arith, only j t))))
         (λ e. let ne = eqb-false i x e in
-        let r = entries-lone (suc i) n (omega arith) (omega arith) in
+        let r = entries_lone (suc i) n (omega arith) (omega arith) in
         cases (touched i) (λ t. absurd (ne (only i t))) (λ t. rw t r))
 
 pub part_entries : {touched : ℕ → Bool} {n : ℕ} {s : Span} → Part touched n s → (entry : ℕ → List ℕ)
@@ -33,6 +33,6 @@ pub part_entries : {touched : ℕ → Bool} {n : ℕ} {s : Span} → Part touche
 part_entries whole entry = refl
 part_entries {touched} {n} (lone x h) entry =
     cases (ltb x n)
-    (λ e. let b = ltb-true x n e in rw e (sym (entries-lone touched entry x h 0 n (omega arith) (omega arith))))
+    (λ e. let b = ltb-true x n e in rw e (sym (entries_lone touched entry x h 0 n (omega arith) (omega arith))))
     (λ e. let b = ltb-false x n e in rw e (sym (entries_none touched entry 0 n (λ j _ a t. omega (arith, h j t)))))
 part_entries {touched} {n} (none h) entry = sym (entries_none touched entry 0 n (λ j _ _. h j))

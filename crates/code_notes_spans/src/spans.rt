@@ -9,7 +9,7 @@ use spec_calls::kinds::{ALL, NEW, RUNNER, TAKEN, WAITER};
 use spec_kernel::sizes;
 
 // So many ids from a first one on.
-#[derive(Drop)]
+#[derive(Clone, Copy)]
 pub struct Span {
     pub first: u16,
     pub count: u8,

@@ -16,7 +16,7 @@ use spec_kernel::records::Thread;
 use spec_kernel::sizes;
 
 // The records so far, who was touched, and who stood at each place of `places` and of the time queue: 255 is nobody.
-#[derive(Drop)]
+#[derive(Clone, Copy)]
 pub struct Threading {
     pub threads: [Thread; sizes::THREADS],
     pub out: [u8; CAPACITY],

@@ -54,26 +54,26 @@ module _ (k : Kernel) where
       }
 
   module _ {waited untrue : ℕ} {t : Threads} (T : OfThreads k.threads waited untrue k.flags t) where
-    pub threads-part : Objects waited untrue k.semaphores k.events k.bits → t.kept ≡ threads_kept k
+    pub threads_part : Objects waited untrue k.semaphores k.events k.bits → t.kept ≡ threads_kept k
     unfolding threads_kept
-    threads-part o = T.kept _ _ _ o
+    threads_part o = T.kept _ _ _ o
 
-    pub places-part : is_table t.homes t.ranks k.places ≡ places_kept k
+    pub places_part : is_table t.homes t.ranks k.places ≡ places_kept k
     unfolding places_kept in_rank home_of
-    places-part = table_kept has_home rank_of k.threads no_thread refl T.full T.homes T.ranks k.places
+    places_part = table_kept has_home rank_of k.threads no_thread refl T.full T.homes T.ranks k.places
 
-    pub time-part : is_table t.ticking t.ticks k.time ≡ time_kept k
+    pub time_part : is_table t.ticking t.ticks k.time ≡ time_kept k
     unfolding time_kept in_time
-    time-part = table_kept is_ticking (λ (r : Thread). r.ticks) k.threads no_thread refl T.full T.ticking T.ticks k.time
+    time_part = table_kept is_ticking (λ (r : Thread). r.ticks) k.threads no_thread refl T.full T.ticking T.ticks k.time
 
   module _ {m : Messages} (M : OfMessages k.messages k.threads m) where
-    pub messages-part : m.kept ≡ messages_kept k
+    pub messages_part : m.kept ≡ messages_kept k
     unfolding messages_kept
-    messages-part = M.kept
+    messages_part = M.kept
 
-    pub posted-part : is_table m.queued m.streams k.posted ≡ posted_kept k
+    pub posted_part : is_table m.queued m.streams k.posted ≡ posted_kept k
     unfolding posted_kept in_stream
-    posted-part = table_kept is_queued stream_of k.messages no_message refl M.full M.queued M.streams k.posted
+    posted_part = table_kept is_queued stream_of k.messages no_message refl M.full M.queued M.streams k.posted
 
 -- ---- the groups
 -- what isn't gone through isn't asked for

@@ -9,14 +9,14 @@ use spec_kernel::records::{Event, Message, Semaphore, Thread};
 use spec_kernel::sizes;
 
 // `waited` has those that may have waiters.
-#[derive(Drop)]
+#[derive(Clone, Copy)]
 pub struct Semaphores {
     pub kept: bool,
     pub waited: u64,
 }
 
 // Sets of those who have a home and of those who have ticks left; rank and ticks left of each.
-#[derive(Drop)]
+#[derive(Clone, Copy)]
 pub struct Threads {
     pub kept: bool,
     pub homes: u64,
@@ -26,7 +26,7 @@ pub struct Threads {
 }
 
 // The set of those that stand in a channel, and the stream of each.
-#[derive(Drop)]
+#[derive(Clone, Copy)]
 pub struct Messages {
     pub kept: bool,
     pub queued: u64,

@@ -7,7 +7,7 @@ use spec_kernel::records::{Kernel, Semaphore};
 use spec_kernel::sizes;
 use spec_moves::parts::Threads;
 
-#[derive(Drop)]
+#[derive(Clone, Copy)]
 pub struct Waiting {
     pub threads: Threads,
     pub semaphores: [Semaphore; sizes::SEMAPHORES],

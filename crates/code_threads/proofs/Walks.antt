@@ -8,7 +8,7 @@ use lib.ListN.{length, take, get_or}
 use Rattle.base_queue.specs.declared.Queue.{Queue}
 use Rattle.base_queue.specs.Lists.{keep}
 use Rattle.base_queue.specs.Queues.{capacity, items}
-use Rattle.base_queue.proofs.Lists.{keep-next}
+use Rattle.base_queue.proofs.Lists.{keep_next}
 use Rattle.base_queue.proofs.Queues.{Walk, walk_start, sized_items}
 use Rattle.spec_moves.specs.declared.parts.Threads.{Threads}
 use Rattle.spec_moves.specs.States.{each}
@@ -26,16 +26,16 @@ module _ (f : ℕ → Threads → Threads) where
 
     module _ (at : List ℕ) {n : ℕ} (i : ℕ) {next : Threads} (w : Walked at n i next) (h : i < n) where
       -- with the one at i too
-      pub walk-does : g (get_or at i 0) ≡ true → Walked at n (i + 1) (f (get_or at i 0) next)
-      walk-does e = (omega arith, rw (keep-next g 0 at i (omega arith), e, each_append, w.1))
+      pub walk_does : g (get_or at i 0) ≡ true → Walked at n (i + 1) (f (get_or at i 0) next)
+      walk_does e = (omega arith, rw (keep_next g 0 at i (omega arith), e, each_append, w.1))
 
       -- or not
-      pub walk-skips : g (get_or at i 0) ≡ false → Walked at n (i + 1) next
-      walk-skips e = (omega arith, rw (keep-next g 0 at i (omega arith), e, append-nil) w.1)
+      pub walk_skips : g (get_or at i 0) ≡ false → Walked at n (i + 1) next
+      walk_skips e = (omega arith, rw (keep_next g 0 at i (omega arith), e, append-nil) w.1)
 
     module _ (q : Queue) (n : ℕ) (s : n ≡ length (items q)) where
-      pub walk-starts : length q.at ≡ capacity → Walked q.at n 0 p
-      walk-starts e = (walk_start q n s 0 (omega arith) e, refl)
+      pub walk_starts : length q.at ≡ capacity → Walked q.at n 0 p
+      walk_starts e = (walk_start q n s 0 (omega arith) e, refl)
 
       pub walk_ends : {i : ℕ} {next : Threads} → Walked q.at n i next → n ≤ i → next ≡ each f (keep g (items q)) p
       walk_ends {i} w h =

@@ -126,29 +126,29 @@ module _ {waited : ℕ → Bool} {k : Kernel} (C : Core waited k) where
   -- ---- a thread gets a record
   module _ (t : ℕ) (b : t < thread_count) (r : Thread) where
     -- what holds of it, and of the others, holds of each
-    pub each-thread : (P : Thread → Type 0) (u : ℕ) → (u ≡ t → P r) → ((u ≡ t → ⊥) → P (thread k u)) → P (thread (move_thread t r k) u)
-    each-thread P u f g =
+    pub each_thread : (P : Thread → Type 0) (u : ℕ) → (u ≡ t → P r) → ((u ≡ t → ⊥) → P (thread k u)) → P (thread (move_thread t r k) u)
+    each_thread P u f g =
         cases (eqb u t)
         (λ e. let z = eqb-true u t e in rw (z, relocate_same (threads_of k) t r C.standing.count b) (f z))
         (λ e. let ne = eqb-false u t e in rw (relocate_other (threads_of k) t r ne) (g ne))
 
     module _ (F : FineThread k.semaphores waited k.flags r) where
-      pub place-core : ((m : ℕ) → (message k m).live ≡ true → (message k m).owner ≡ t
+      pub place_core : ((m : ℕ) → (message k m).live ≡ true → (message k m).owner ≡ t
           → (r.live ≡ true) × (awaits r.condition (message k m).channel ≡ false)) → Core waited (move_thread t r k)
-      place-core owned = record {
+      place_core owned = record {
         standing = relocate_standing (threads_of k) t r C.standing;
         filed = C.filed;
         semaphores_sized = C.semaphores_sized;
         events_sized = C.events_sized;
-        threads = λ u. each-thread (FineThread k.semaphores waited k.flags) u (λ _. F) (λ _. C.threads u);
+        threads = λ u. each_thread (FineThread k.semaphores waited k.flags) u (λ _. F) (λ _. C.threads u);
         semaphores = C.semaphores;
         messages = λ m. record {
           living = λ e. let L = (C.messages m).living e in record {
-            owner = each-thread (λ s. s.live ≡ true) (message k m).owner (λ z. (owned m e z).0) (λ _. L.owner);
+            owner = each_thread (λ s. s.live ≡ true) (message k m).owner (λ z. (owned m e z).0) (λ _. L.owner);
             sender = L.sender;
             channel = L.channel;
             unawaited =
-                each-thread (λ s. awaits s.condition (message k m).channel ≡ false) (message k m).owner
+                each_thread (λ s. awaits s.condition (message k m).channel ≡ false) (message k m).owner
                 (λ z. (owned m e z).1) (λ _. L.unawaited);
           };
           gone = (C.messages m).gone;
@@ -156,12 +156,12 @@ module _ {waited : ℕ → Bool} {k : Kernel} (C : Core waited k) where
       }
 
       -- a live one that awaits no message
-      pub place-calm : r.live ≡ true → ((c : ℕ) → awaits r.condition c ≡ false) → Core waited (move_thread t r k)
-      place-calm l a = place-core (λ m _ _. (l, a (message k m).channel))
+      pub place_calm : r.live ≡ true → ((c : ℕ) → awaits r.condition c ≡ false) → Core waited (move_thread t r k)
+      place_calm l a = place_core (λ m _ _. (l, a (message k m).channel))
 
       -- one with the condition that it had
-      pub place-alike : r.live ≡ (thread k t).live → r.condition ≡ (thread k t).condition → Core waited (move_thread t r k)
-      place-alike l c = place-core (λ m e z. let L = (C.messages m).living e in (l ∙ (rw z at L.owner), rw (c, ← z) L.unawaited))
+      pub place_alike : r.live ≡ (thread k t).live → r.condition ≡ (thread k t).condition → Core waited (move_thread t r k)
+      place_alike l c = place_core (λ m e z. let L = (C.messages m).living e in (l ∙ (rw z at L.owner), rw (c, ← z) L.unawaited))
 
   -- ---- a message gets a record
   pub file_core : (m : ℕ) → m < message_count → (r : Message) → FineMessage k.threads r → Core waited (move_message m r k)
@@ -179,8 +179,8 @@ module _ {waited : ℕ → Bool} {k : Kernel} (C : Core waited k) where
 
   -- ---- a semaphore gets a record; an id too large changes nothing
   module _ (i : ℕ) (s : Semaphore) where
-    pub each-semaphore : (P : Semaphore → Type 0) (j : ℕ) → (j ≡ i → P s) → P (semaphore k j) → P (semaphore (with_semaphore i s k) j)
-    each-semaphore P j f h =
+    pub each_semaphore : (P : Semaphore → Type 0) (j : ℕ) → (j ≡ i → P s) → P (semaphore k j) → P (semaphore (with_semaphore i s k) j)
+    each_semaphore P j f h =
         cases (eqb j i)
         (λ e. cases (ltb i semaphore_count)
         (λ b. let z = eqb-true j i e in
@@ -191,16 +191,16 @@ module _ {waited : ℕ → Bool} {k : Kernel} (C : Core waited k) where
         (λ e. rw (get_or-set_other k.semaphores i j s no_semaphore (eqb-false j i e)) h)
 
     -- who waits for it may wait for the new one
-    pub semaphore-core : KeptSemaphore s → ((t : ℕ) → (thread k t).condition ≡ ForSemaphore i → Waitable s)
+    pub semaphore_core : KeptSemaphore s → ((t : ℕ) → (thread k t).condition ≡ ForSemaphore i → Waitable s)
         → Core waited (with_semaphore i s k)
-    semaphore-core F waiters = record {
+    semaphore_core F waiters = record {
       standing = C.standing;
       filed = C.filed;
       semaphores_sized = length-set k.semaphores i s ∙ C.semaphores_sized;
       events_sized = C.events_sized;
-      threads = λ t. fine_still (λ j z. each-semaphore Waitable j (λ y. waiters t (z ∙ ap ForSemaphore y))) (λ _ _ _ w. w) (λ _ _ w. w)
+      threads = λ t. fine_still (λ j z. each_semaphore Waitable j (λ y. waiters t (z ∙ ap ForSemaphore y))) (λ _ _ _ w. w) (λ _ _ w. w)
           (C.threads t);
-      semaphores = λ j. each-semaphore KeptSemaphore j (λ _. F) (C.semaphores j);
+      semaphores = λ j. each_semaphore KeptSemaphore j (λ _. F) (C.semaphores j);
       messages = C.messages;
     }
 

@@ -12,7 +12,7 @@ use Rattle.base_queue.specs.declared.Queue.{Queue}
 use Rattle.base_queue.specs.Lists.{first_of}
 use Rattle.base_queue.specs.Queues.{capacity, items, Tidy}
 use Rattle.base_queue.specs.Tables.{Placed}
-use Rattle.base_queue.proofs.Tables.{placed-short}
+use Rattle.base_queue.proofs.Tables.{placed_short}
 use Rattle.spec_kernel.specs.declared.records.Condition.{Condition}
 use Rattle.spec_kernel.specs.declared.records.Condition.TheVariants.{Ready, Asleep, ForSemaphore, ForEvent, ForMessage, ForFlag}
 use Rattle.spec_kernel.specs.declared.records.Thread.{Thread}
@@ -69,7 +69,7 @@ tidy_full q t h = ap (λ (p : Queue). length p.at) (sym t) ∙ simp (length-appe
 table_full : {A : Type 0} (belongs : A → Bool) (d : A) → belongs d ≡ false → (l : List A) (n : ℕ) → length l ≡ n → n ≤ capacity
     → (q : Queue) → Tidy q → Placed (λ i. belongs (get_or l i d)) (items q) → length q.at ≡ capacity
 table_full belongs d out l n e b q t P =
-    let s = placed-short (λ i. belongs (get_or l i d)) (items q) n (λ i h. rw (past_end l d e h) out) P in
+    let s = placed_short (λ i. belongs (get_or l i d)) (items q) n (λ i h. rw (past_end l d e h) out) P in
     tidy_full q t (omega arith)
 
 pub sized : {waited : ℕ → Bool} {k : Kernel} → Core waited k → Sized k

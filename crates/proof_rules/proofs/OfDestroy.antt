@@ -21,7 +21,7 @@ use Rattle.spec_moves.specs.Standing.{posts_of, Filed}
 use Rattle.spec_calls.specs.declared.call.Call.{Call}
 use Rattle.spec_refusals.specs.Refusals.{in_region, blocks_in_region, stops_caller}
 use Rattle.spec_threads.specs.Threads.{owns, freed_from, free_messages, destroy_thread}
-use Rattle.proof_rules.proofs.Core.{Core, FineMessage, live_thread, place-core}
+use Rattle.proof_rules.proofs.Core.{Core, FineMessage, live_thread, place_core}
 use Rattle.proof_rules.proofs.Ends.{Good, Before}
 use Rattle.proof_rules.proofs.Accepted.{Accepted, thread_named}
 use Rattle.proof_rules.proofs.OfMessages.{none_fine}
@@ -94,7 +94,7 @@ kind_3 {k} B {c} A e =
     let b = live_thread B.core c.a l in
     record {
       core =
-          place-core C c.a b no_thread (record { living = λ h. absurd (false≢true h); gone = λ _. refl })
+          place_core C c.a b no_thread (record { living = λ h. absurd (false≢true h); gone = λ _. refl })
           (λ m h z. absurd (freed_owner c.a k m h z));
       runs = place_runs C c.a b no_thread B.runs (λ p z. absurd (false≢true (sym region ∙ rw (lt-ltb 0 _ p, z, same))));
     }

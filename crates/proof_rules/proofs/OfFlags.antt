@@ -18,7 +18,7 @@ use Rattle.spec_kernel.specs.Records.{thread, flag}
 use Rattle.spec_kernel.specs.Conditions.{of_flags}
 use Rattle.spec_kernel.specs.Places.{home, home_of, flag_queue}
 use Rattle.spec_kernel.specs.Free.{free_flag}
-use Rattle.spec_kernel.proofs.LowestClear.{clear-is-clear}
+use Rattle.spec_kernel.proofs.LowestClear.{clear_is_clear}
 use Rattle.spec_moves.specs.Moves.{thread_in}
 use Rattle.spec_moves.specs.Standing.{threads_of}
 use Rattle.spec_calls.specs.declared.call.Call.{Call}
@@ -59,7 +59,7 @@ module _ {k : Kernel} (B : Before k) {c : Call} (A : Accepted k c) where
   unfolding create_flag none_free named value_of kind_of
   kind_31 e =
       let free : eqb (free_flag k) 255 ≡ false = simp (e, or-false) at A.free in
-      let (b, _) = clear-is-clear k.flags flag_count (eqb-false (free_flag k) 255 free) in
+      let (b, _) = clear_is_clear k.flags flag_count (eqb-false (free_flag k) 255 free) in
       record {
         core = flags_core B.core (with_bit k.flags (free_flag k)) (λ t i _ h.
             cases (eqb (free_flag k) i)

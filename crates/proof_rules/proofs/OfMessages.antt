@@ -33,7 +33,7 @@ use Rattle.spec_refusals.specs.Refusals.{in_region, bad_number, blocks_in_region
 use Rattle.spec_moves.specs.States.{move_message, as_byte}
 use Rattle.spec_threads.specs.Threads.{awake}
 use Rattle.spec_messages.specs.Messages.{passed, create_message, destroy_message, hand_over, post_message, receive, pend_message}
-use Rattle.proof_rules.proofs.Core.{FineMessage, Core, untrue, live_thread, live_message, file_core, place-calm}
+use Rattle.proof_rules.proofs.Core.{FineMessage, Core, untrue, live_thread, live_message, file_core, place_calm}
 use Rattle.proof_rules.proofs.Ends.{Good, Before}
 use Rattle.proof_rules.proofs.Accepted.{Accepted, inside, thread_named, message_named}
 use Rattle.proof_rules.proofs.Steps.{ready_live, awake_fine, place_runs, caller_ready, block_good}
@@ -134,7 +134,7 @@ module _ {k : Kernel} (B : Before k) {c : Call} (A : Accepted k c) where
       let r : Thread = awake Wake.Met c.a (thread k c.b) in
       rw h
       (record {
-        core = place-calm D c.b b r (awake_fine (C.threads c.b) l Wake.Met c.a (inl (live_message C c.a m))) l (λ _. refl);
+        core = place_calm D c.b b r (awake_fine (C.threads c.b) l Wake.Met c.a (inl (live_message C c.a m))) l (λ _. refl);
         runs = place_runs D c.b b r B.runs (λ _ _. rw l);
       }))
       (λ h. rw h (record { core = file_any C c.a (queued_fine m l s high h); runs = B.runs })))

@@ -23,10 +23,10 @@ use Rattle.spec_threads.specs.Threads.{wake}
 use Rattle.spec_semaphores.specs.Semaphores.{raised, with_ticks, post_to, post}
 use Rattle.spec_time.specs.Time.{later, reason_at, aged, time_passes, pulse, pulse_from, tick}
 use Rattle.spec_time.proofs.LawsOfTime.{passed, turn_of}
-use Rattle.proof_rules.proofs.Core.{Fits, FineThread, Core, untrue, each-semaphore, semaphore-core, scheduler_core}
+use Rattle.proof_rules.proofs.Core.{Fits, FineThread, Core, untrue, each_semaphore, semaphore_core, scheduler_core}
 use Rattle.proof_rules.proofs.Ends.{Runs, Good, Before}
 use Rattle.proof_rules.proofs.Accepted.{Accepted}
-use Rattle.proof_rules.proofs.Semaphores.{waited_for, post-kept}
+use Rattle.proof_rules.proofs.Semaphores.{waited_for, post_kept}
 use Rattle.proof_rules.proofs.Wakings.{woken, as_due, passes_standing, passes_record}
 use Rattle.proof_rules.proofs.AllThreads.{Becomes, stays, becomes_awake, threads_core}
 
@@ -71,7 +71,7 @@ module _ {waited : ℕ → Bool} {k : Kernel} (C : Core waited k) (i : ℕ) wher
   post_live l = go (semaphore_queue k i)
     where
       go : (q : List ℕ) → (semaphore (post_to q i k) i).live ≡ true
-      go [] = each-semaphore C i (raised (semaphore k i)) (λ s. s.live ≡ true) i (λ _. l) l
+      go [] = each_semaphore C i (raised (semaphore k i)) (λ s. s.live ≡ true) i (λ _. l) l
       go (t ∷ q) = l
 
   -- new ticks and period, of a live one
@@ -79,7 +79,7 @@ module _ {waited : ℕ → Bool} {k : Kernel} (C : Core waited k) (i : ℕ) wher
       → Core waited (with_semaphore i (with_ticks ticks period (semaphore k i)) k)
   ticks_core ticks period l p b =
       let L = (C.semaphores i).living l in
-      semaphore-core C i (with_ticks ticks period (semaphore k i))
+      semaphore_core C i (with_ticks ticks period (semaphore k i))
       (record {
         living = λ _. record { maximum = L.maximum; count = L.count; ticks = (λ z. absurd (p z), λ _. b) };
         gone = λ e. absurd (false≢true (sym e ∙ l));
@@ -99,7 +99,7 @@ pulse_keeps {waited} {k} C i =
     let l = cases s.live (λ l. l) (λ l. absurd (p (rw ((C.semaphores i).gone l)))) in
     let t = ((C.semaphores i).living l).ticks.1 (omega (arith, p)) in
     cases (eqb s.ticks 1)
-    (λ h. let (D, R, U) = post-kept C i l in
+    (λ h. let (D, R, U) = post_kept C i l in
     rw (e, h) (ticks_core D i s.period s.period (post_live C i l) p (omega (arith, p)), R, U))
     (λ h. let o = eqb-false s.ticks 1 h in
     rw (e, h) (ticks_core C i (s.ticks - 1) s.period l p (omega (arith, o)), λ R. R, refl)))

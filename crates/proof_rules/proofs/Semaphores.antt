@@ -26,11 +26,11 @@ use Rattle.spec_moves.specs.States.{with_semaphore}
 use Rattle.spec_semaphores.specs.Semaphores.{with_count, with_ticks, raised, post_to, post}
 use Rattle.spec_threads.specs.Threads.{wake}
 use Rattle.spec_semaphores.specs.Semaphores.{create_semaphore, destroy_semaphore, make_periodic, remove_periodic, pend_semaphore, post_semaphore}
-use Rattle.proof_rules.proofs.Core.{Waitable, Core, untrue, live_semaphore, condition_of, semaphore-core}
+use Rattle.proof_rules.proofs.Core.{Waitable, Core, untrue, live_semaphore, condition_of, semaphore_core}
 use Rattle.proof_rules.proofs.Ends.{Runs, Good, Before}
 use Rattle.proof_rules.proofs.Free.{free_id}
 use Rattle.proof_rules.proofs.Accepted.{Accepted, neither, inside, semaphore_named}
-use Rattle.proof_rules.proofs.Steps.{semaphore_waiter, line_live, wake-core, wake-runs, caller_ready, block_good}
+use Rattle.proof_rules.proofs.Steps.{semaphore_waiter, line_live, wake_core, wake_runs, caller_ready, block_good}
 
 -- a live record
 living : {s : Semaphore} → s.live ≡ true → LiveSemaphore s → KeptSemaphore s
@@ -51,8 +51,8 @@ module _ {waited : ℕ → Bool} {k : Kernel} (C : Core waited k) (i : ℕ) wher
 
   module _ (l : (semaphore k i).live ≡ true) where
     -- ---- a post: the first waiter wakes, or the count goes up
-    raised-fine : KeptSemaphore (raised (semaphore k i))
-    raised-fine =
+    raised_fine : KeptSemaphore (raised (semaphore k i))
+    raised_fine =
         let L = (C.semaphores i).living l in
         living l
         (record {
@@ -64,23 +64,23 @@ module _ {waited : ℕ → Bool} {k : Kernel} (C : Core waited k) (i : ℕ) wher
         })
 
     -- the events are as they were
-    pub post-kept : Core waited (post i k) × (Runs k → Runs (post i k)) × (untrue (post i k) ≡ untrue k)
+    pub post_kept : Core waited (post i k) × (Runs k → Runs (post i k)) × (untrue (post i k) ≡ untrue k)
     unfolding post wake
-    post-kept = go (semaphore_queue k i) refl
+    post_kept = go (semaphore_queue k i) refl
       where
         go : (q : List ℕ) → semaphore_queue k i ≡ q
             → Core waited (post_to q i k) × (Runs k → Runs (post_to q i k)) × (untrue (post_to q i k) ≡ untrue k)
-        go [] e = (semaphore-core C i (raised (semaphore k i)) raised-fine (λ t w. absurd (none_waits e t w)), λ R. R, refl)
+        go [] e = (semaphore_core C i (raised (semaphore k i)) raised_fine (λ t w. absurd (none_waits e t w)), λ R. R, refl)
         go (t ∷ q) e =
             let b = live_semaphore C i l in
             let h = line_live C (256 + i) t (omega arith) (rw e (count_head t q)) in
-            (wake-core C Wake.Met t h, wake-runs C Wake.Met t h, refl)
+            (wake_core C Wake.Met t h, wake_runs C Wake.Met t h, refl)
 
 module _ {k : Kernel} (B : Before k) {c : Call} (A : Accepted k c) where
   -- a semaphore gets a record
   semaphore_good : (i : ℕ) (s : Semaphore) → KeptSemaphore s → ((t : ℕ) → (thread k t).condition ≡ ForSemaphore i → Waitable s)
       → Good (with_semaphore i s k)
-  semaphore_good i s F waiters = record { core = semaphore-core B.core i s F waiters; runs = B.runs }
+  semaphore_good i s F waiters = record { core = semaphore_core B.core i s F waiters; runs = B.runs }
 
   pub kind_14 : c.kind ≡ 14 → Good (create_semaphore k c)
   unfolding create_semaphore bad_number none_free named value_of kind_of
@@ -110,15 +110,15 @@ module _ {k : Kernel} (B : Before k) {c : Call} (A : Accepted k c) where
     L : LiveSemaphore s
     L = (B.core.semaphores c.a).living l
 
-    ticks-good : (ticks period : ℕ) → (period ≡ 0 → ticks ≡ 0) × (0 < period → 0 < ticks)
+    ticks_good : (ticks period : ℕ) → (period ≡ 0 → ticks ≡ 0) × (0 < period → 0 < ticks)
         → Good (with_semaphore c.a (with_ticks ticks period s) k)
-    ticks-good ticks period h =
+    ticks_good ticks period h =
         semaphore_good c.a (with_ticks ticks period s) (living l (record { maximum = L.maximum; count = L.count; ticks = h }))
         (waited_for B.core c.a)
 
-    pend-good : from_thread c ≡ true → (eqb s.count 0 ≡ true → in_region k.unscheduled k.critical ≡ false) → Good (pend_semaphore k c)
+    pend_good : from_thread c ≡ true → (eqb s.count 0 ≡ true → in_region k.unscheduled k.critical ≡ false) → Good (pend_semaphore k c)
     unfolding pend_semaphore
-    pend-good f out =
+    pend_good f out =
         cases (ltb 0 s.count)
         (λ e. let b = ltb-true 0 s.count e in
         rw e
@@ -129,9 +129,9 @@ module _ {k : Kernel} (B : Before k) {c : Call} (A : Accepted k c) where
         rw e
         (block_good B (caller_ready B A f) (ForSemaphore c.a) c.c (l, z) (out (eq-eqb s.count 0 z)) (λ _ _ _. refl)))
 
-    post-good : Good (post_semaphore k c)
+    post_good : Good (post_semaphore k c)
     unfolding post_semaphore
-    post-good = let (core, runs, events) = post-kept B.core c.a l in record { core = rw events core; runs = runs B.runs }
+    post_good = let (core, runs, events) = post_kept B.core c.a l in record { core = rw events core; runs = runs B.runs }
 
   pub kind_16 : c.kind ≡ 16 → Good (make_periodic k c)
   unfolding make_periodic bad_number
@@ -139,19 +139,19 @@ module _ {k : Kernel} (B : Before k) {c : Call} (A : Accepted k c) where
       let (delay, period) = neither (eqb c.c 0) (eqb c.d 0) (simp (e, or-false) at A.numbers) in
       let d = eqb-false c.c 0 delay in
       let p = eqb-false c.d 0 period in
-      ticks-good (semaphore_named A e refl) c.c c.d (λ z. absurd (p z), λ _. omega arith)
+      ticks_good (semaphore_named A e refl) c.c c.d (λ z. absurd (p z), λ _. omega arith)
 
   pub kind_17 : c.kind ≡ 17 → Good (remove_periodic k c)
   unfolding remove_periodic
-  kind_17 e = ticks-good (semaphore_named A e refl) 0 0 (omega arith)
+  kind_17 e = ticks_good (semaphore_named A e refl) 0 0 (omega arith)
 
   pub kind_18 : c.kind ≡ 18 → Good (pend_semaphore k c)
   unfolding from_thread kind_of blocks_in_region stops_caller named
   kind_18 e =
-      pend-good (semaphore_named A e refl) (rw e) (λ z. simp (e, z, and-true) at A.region)
+      pend_good (semaphore_named A e refl) (rw e) (λ z. simp (e, z, and-true) at A.region)
 
   pub kind_19 : c.kind ≡ 19 → Good (post_semaphore k c)
-  kind_19 e = post-good (semaphore_named A e refl)
+  kind_19 e = post_good (semaphore_named A e refl)
 
   pub kind_28 : c.kind ≡ 28 → Good (post_semaphore k c)
-  kind_28 e = post-good (semaphore_named A e refl)
+  kind_28 e = post_good (semaphore_named A e refl)

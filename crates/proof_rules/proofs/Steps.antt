@@ -27,7 +27,7 @@ use Rattle.spec_refusals.specs.Refusals.{in_region}
 use Rattle.spec_moves.specs.States.{move_thread}
 use Rattle.spec_threads.specs.Threads.{awake, blocked, block, wake}
 use Rattle.proof_rules.proofs.Core.{Fits, FineThread, Core, untrue, live_thread}
-use Rattle.proof_rules.proofs.Core.{live_semaphore, condition_of, live_waiter, each-thread, place-core, place-calm}
+use Rattle.proof_rules.proofs.Core.{live_semaphore, condition_of, live_waiter, each_thread, place_core, place_calm}
 use Rattle.proof_rules.proofs.Ends.{Runs, Good, Before}
 use Rattle.proof_rules.proofs.Accepted.{Accepted, called}
 
@@ -77,19 +77,19 @@ module _ {waited : ℕ → Bool} {k : Kernel} (C : Core waited k) where
   -- ---- who runs in a region is ready still
   pub place_runs : (t : ℕ) → t < thread_count → (r : Thread) → Runs k
       → (0 < k.unscheduled + k.critical → k.runner ≡ t → is_ready r ≡ true) → Runs (move_thread t r k)
-  place_runs t b r R h = λ p. each-thread C t b r (λ s. is_ready s ≡ true) k.runner (h p) (λ _. R p)
+  place_runs t b r R h = λ p. each_thread C t b r (λ s. is_ready s ≡ true) k.runner (h p) (λ _. R p)
 
   -- ---- a live thread wakes
   module _ (why : Wake) (t : ℕ) (l : (thread k t).live ≡ true) where
-    pub wake-core : Core waited (wake why t k)
+    pub wake_core : Core waited (wake why t k)
     unfolding wake
-    wake-core =
-        place-calm C t (live_thread C t l) (awake why (thread k t).reply (thread k t))
+    wake_core =
+        place_calm C t (live_thread C t l) (awake why (thread k t).reply (thread k t))
         (awake_fine (C.threads t) l why (thread k t).reply ((C.threads t).living l).reply) l (λ _. refl)
 
-    pub wake-runs : Runs k → Runs (wake why t k)
+    pub wake_runs : Runs k → Runs (wake why t k)
     unfolding wake
-    wake-runs R = place_runs t (live_thread C t l) (awake why (thread k t).reply (thread k t)) R (λ _ _. rw l)
+    wake_runs R = place_runs t (live_thread C t l) (awake why (thread k t).reply (thread k t)) R (λ _ _. rw l)
 
 -- ---- the caller is ready
 pub caller_ready : {k : Kernel} {c : Call} → Before k → Accepted k c → from_thread c ≡ true → is_ready (thread k k.runner) ≡ true
@@ -107,7 +107,7 @@ block_good {k} B ready condition timeout f out owned =
     let b = live_thread C k.runner l in
     let r : Thread = blocked condition timeout (thread k k.runner) in
     record {
-      core = place-core C k.runner b r (blocked_fine (C.threads k.runner) l condition timeout f) (λ m e z. (l, owned m e z));
+      core = place_core C k.runner b r (blocked_fine (C.threads k.runner) l condition timeout f) (λ m e z. (l, owned m e z));
       runs =
           place_runs C k.runner b r B.runs
           (λ p _. absurd (false≢true (sym out ∙ lt-ltb 0 (k.unscheduled + k.critical) p)));

@@ -19,7 +19,7 @@ use Rattle.spec_refusals.specs.Named.{named, value_of}
 use Rattle.spec_refusals.specs.Refusals.{bad_number, stops_caller, blocks_in_region, none_free}
 use Rattle.spec_moves.specs.States.{move_thread, as_byte}
 use Rattle.spec_threads.specs.Threads.{born, with_priority, create_thread, set_priority, reset_priority, yielded, sleep}
-use Rattle.proof_rules.proofs.Core.{FineThread, untrue, live_thread, place-calm, place-alike}
+use Rattle.proof_rules.proofs.Core.{FineThread, untrue, live_thread, place_calm, place_alike}
 use Rattle.proof_rules.proofs.Ends.{Good, Before}
 use Rattle.proof_rules.proofs.Free.{free_id}
 use Rattle.proof_rules.proofs.Accepted.{Accepted, inside, thread_named}
@@ -44,7 +44,7 @@ module _ {k : Kernel} (B : Before k) where
         living = λ _. record { priority = (low, high, L.priority.2, L.priority.3); reply = L.reply; condition = L.condition };
         gone = λ e. absurd (false≢true (sym e ∙ l));
       } in
-      record { core = place-alike C t b r F refl refl; runs = place_runs C t b r B.runs (λ p z. rw z at (B.runs p)) }
+      record { core = place_alike C t b r F refl refl; runs = place_runs C t b r B.runs (λ p z. rw z at (B.runs p)) }
 
   module _ {c : Call} (A : Accepted k c) where
     pub kind_2 : c.kind ≡ 2 → Good (create_thread k c)
@@ -55,7 +55,7 @@ module _ {k : Kernel} (B : Before k) where
         let (b, _) = free_id (λ r. r.live) no_thread k.threads (simp (e, or-false) at A.free) in
         let b' : free_thread k < thread_count = omega (arith, C.standing.count) in
         record {
-          core = place-calm C (free_thread k) b' (born c.a) (born_fine c.a low high) refl (λ _. refl);
+          core = place_calm C (free_thread k) b' (born c.a) (born_fine c.a low high) refl (λ _. refl);
           runs = place_runs C (free_thread k) b' (born c.a) B.runs (λ _ _. refl);
         }
 
@@ -79,7 +79,7 @@ module _ {k : Kernel} (B : Before k) where
         let t = k.runner in
         let b = live_thread C t (ready_live (thread k t) (caller_ready B A (rw e))) in
         record {
-          core = place-alike C t b (thread k t) (C.threads t) refl refl;
+          core = place_alike C t b (thread k t) (C.threads t) refl refl;
           runs = place_runs C t b (thread k t) B.runs (λ p _. B.runs p);
         }
 

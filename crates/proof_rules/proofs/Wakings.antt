@@ -71,9 +71,9 @@ module _ (why : Thread → Wake) where
 
   -- of those in a list, who passes a test is called
   module _ {p : Threads} (S : Standing p) (f : ℕ → Bool) (l : List ℕ) where
-    pub each-kept : (t : ℕ) → (f t ≡ true → count t l ≡ 1) → (f t ≡ true → thread_in p t ≡ no_thread → ⊥)
+    pub each_kept : (t : ℕ) → (f t ≡ true → count t l ≡ 1) → (f t ≡ true → thread_in p t ≡ no_thread → ⊥)
         → thread_in (each (wakes why) (keep f l) p) t ≡ cond (f t) (woken why (thread_in p t)) (thread_in p t)
-    each-kept t once some =
+    each_kept t once some =
         cases (f t) (λ e. rw e (each_member (keep f l) S (has_id S (some e)) (rw (count_keep, e) (once e))))
         (λ e. rw e (each_other t (keep f l) p (rw (count_keep, e))))
 
@@ -91,7 +91,7 @@ module _ {p : Threads} (S : Standing p) (h : ℕ) where
       → thread_in (woken_in h p) t ≡ cond (eqb (home_of (thread_in p t)) h) (woken as_met (thread_in p t)) (thread_in p t)
   unfolding woken_in wake_in home_of
   line_woken n t =
-      each-kept as_met S (λ u. eqb (home_of (thread_in p u)) h) (items p.places) t
+      each_kept as_met S (λ u. eqb (home_of (thread_in p u)) h) (items p.places) t
       (λ e. rw (S.placed t, eqb-true (home_of (thread_in p t)) h e, ne_eqb h nowhere n))
       (λ e z. n (sym (eqb-true (home_of (thread_in p t)) h e) ∙ ap home_of z))
 
@@ -137,24 +137,24 @@ module _ (events : List Event) (bits : ℕ) where
   is_met i = is_true bits (get_or events i no_event)
 
   module _ {p : Threads} (S : Standing p) (i : ℕ) where
-    out-standing : Standing (work_out events bits i p)
+    out_standing : Standing (work_out events bits i p)
     unfolding work_out
-    out-standing = cases (is_met i) (λ e. rw e (line_standing S (home of_events i))) (λ e. rw e S)
+    out_standing = cases (is_met i) (λ e. rw e (line_standing S (home of_events i))) (λ e. rw e S)
 
-    out-lasts : (P : Thread → Type 0) → Lasts P → i < event_count → (t : ℕ) → P (thread_in p t) → P (thread_in (work_out events bits i p) t)
+    out_lasts : (P : Thread → Type 0) → Lasts P → i < event_count → (t : ℕ) → P (thread_in p t) → P (thread_in (work_out events bits i p) t)
     unfolding work_out
-    out-lasts P f b t h = cases (is_met i) (λ e. rw e (line_lasts P f S (home of_events i) (λ z. omega arith) t h)) (λ e. rw e h)
+    out_lasts P f b t h = cases (is_met i) (λ e. rw e (line_lasts P f S (home of_events i) (λ z. omega arith) t h)) (λ e. rw e h)
 
   pub outs_standing : (i n : ℕ) {p : Threads} → Standing p → Standing (work_out_from events bits i n p)
   unfolding work_out_from
   outs_standing i zero S = S
-  outs_standing i (suc n) S = outs_standing (suc i) n (out-standing S i)
+  outs_standing i (suc n) S = outs_standing (suc i) n (out_standing S i)
 
   pub outs_last : (P : Thread → Type 0) → Lasts P → (i n : ℕ) → i + n ≤ event_count → {p : Threads} → Standing p
       → (t : ℕ) → P (thread_in p t) → P (thread_in (work_out_from events bits i n p) t)
   unfolding work_out_from
   outs_last P f i zero b S t h = h
-  outs_last P f i (suc n) b S t h = outs_last P f (suc i) n (omega arith) (out-standing S i) t (out-lasts S i P f (omega arith) t h)
+  outs_last P f i (suc n) b S t h = outs_last P f (suc i) n (omega arith) (out_standing S i) t (out_lasts S i P f (omega arith) t h)
 
   -- nobody waits for one that is TRUE
   pub outs_unwaited : (i n : ℕ) → i + n ≤ event_count → {p : Threads} → Standing p → ((t : ℕ) → Lively (thread_in p t))
@@ -162,13 +162,13 @@ module _ (events : List Event) (bits : ℕ) where
   unfolding work_out_from work_out
   outs_unwaited i zero b S d j c c' h = absurd (omega arith)
   outs_unwaited i (suc n) b {p} S d j c c' h =
-      let S' = out-standing S i in
+      let S' = out_standing S i in
       cases (eqb i j)
       (λ e. let first : Unwaited j (work_out events bits i p) = rw (eqb-true i j e, h) (line_unwaited S d j (omega arith)) in
       λ t. outs_last (λ r. r.condition ≡ ForEvent j → ⊥) (λ r _ _ q. let y : ◌≡◌ {A = ℕ} 0 1 = cc in omega arith) (suc i) n (omega arith)
       S' t (first t))
       (λ e. let ne = eqb-false i j e in
-      outs_unwaited (suc i) n (omega arith) S' (λ t. out-lasts S i Lively (λ r _ _ _. refl) (omega arith) t (d t)) j
+      outs_unwaited (suc i) n (omega arith) S' (λ t. out_lasts S i Lively (λ r _ _ _. refl) (omega arith) t (d t)) j
       (omega (arith, ne)) (omega arith) h)
 
 -- ---- time is up
@@ -185,7 +185,7 @@ module _ {p : Threads} (S : Standing p) where
       → thread_in (each time_up (due p) p) t ≡ cond (eqb (thread_in p t).ticks 1) (woken as_due (thread_in p t)) (thread_in p t)
   unfolding time_up due
   due_woken t =
-      each-kept as_due S (λ u. eqb (thread_in p u).ticks 1) (items p.time) t
+      each_kept as_due S (λ u. eqb (thread_in p u).ticks 1) (items p.time) t
       (λ e. rw (S.timed t, eqb-true (thread_in p t).ticks 1 e))
       (λ e z. let y : ◌≡◌ {A = ℕ} 1 0 = sym (eqb-true (thread_in p t).ticks 1 e) ∙ ap (λ (r : Thread). r.ticks) z in omega arith)
 

@@ -13,7 +13,7 @@ use Rattle.spec_calls.specs.Calls.{call_of}
 use Rattle.spec_refusals.specs.Refusals.{number_of}
 use Rattle.spec_notes.specs.Undo.{has_last, last_note, Yields}
 use Rattle.spec_notes.specs.Undoes.{undoes}
-use Rattle.spec_notes.proofs.FramesRead.{record_back, last-back}
+use Rattle.spec_notes.proofs.FramesRead.{record_back, last_back}
 use Rattle.spec_notes.proofs.Yields.{yields_kept}
 use Rattle.spec_answers.specs.Steps.{Stepped, accepted, called}
 use Rattle.spec_answers.specs.Logs.{state_after, note_for, undone}
@@ -21,7 +21,7 @@ use Rattle.spec_answers.specs.Runs.{Undamaged, IsRecord, replayed, Accepts, note
 use Rattle.spec_answers.specs.Runs.{given, after, counting, led_back, stood_at}
 use Rattle.spec_answers.specs.Promises.{UndoneIsThat}
 use Rattle.spec_answers.proofs.Kept.{either}
-use Rattle.spec_answers.proofs.WithLogs.{with_length, one-of-four}
+use Rattle.spec_answers.proofs.WithLogs.{with_length, one_of_four}
 use Rattle.spec_answers.proofs.Undos.{not_undone, undone_is_that_lem}
 
 -- ---- a list of calls
@@ -65,7 +65,7 @@ module _ (start : Run) (gone : List (List ℕ)) where
   call_follows {calls} {r} bytes b F =
       let k = r.kernel in
       let note = note_for k bytes in
-      one-of-four k bytes r.log r.used
+      one_of_four k bytes r.log r.used
       (λ x log _ s. called k bytes ≡ s
       → Follows start gone (counting calls (call bytes) x.answer.number)
       (record { kernel = x.kernel; log = log; used = x.used }))
@@ -85,8 +85,8 @@ module _ (start : Run) (gone : List (List ℕ)) where
 
   module _ (K : Undamaged start.kernel) where
     -- its state is as that of the start
-    pub run-kept : {calls : List (List ℕ)} {r : Run} → Follows start gone calls r → Undamaged r.kernel
-    run-kept {calls} F = rw F.state (replayed_kept first calls (replayed_kept start.kernel gone K F.earlier) F.accepted)
+    pub run_kept : {calls : List (List ℕ)} {r : Run} → Follows start gone calls r → Undamaged r.kernel
+    run_kept {calls} F = rw F.state (replayed_kept first calls (replayed_kept start.kernel gone K F.earlier) F.accepted)
 
     -- an undo keeps it where a note is kept: the last call is one no more
     module _ {bytes : List ℕ} {calls : List (List ℕ)} {r : Run} (F : Follows start gone (bytes ∷ calls) r) where
@@ -116,43 +116,43 @@ module _ (start : Run) (gone : List (List ℕ)) where
           simp (length-append, length-take) (omega arith)
 
       -- so the note is the last of the log
-      last-is : last_note r.log r.used ≡ note
+      last_is : last_note r.log r.used ≡ note
       unfolding note_for
-      last-is =
+      last_is =
           let q = replayed first calls in
-          rw (whole, ← size.1) at (last-back q bytes (state_after q bytes) F.accepted.0.0 before (drop r.used r.log))
+          rw (whole, ← size.1) at (last_back q bytes (state_after q bytes) F.accepted.0.0 before (drop r.used r.log))
 
       -- in the same log stands the run that follows the calls before that one,
-      run-follows : Follows start gone calls (stood_at start gone calls r.log)
-      run-follows =
+      run_follows : Follows start gone calls (stood_at start gone calls r.log)
+      run_follows =
           let e =
           ap (take (stood_at start gone calls []).used) (sym whole) ∙ take_at before (note ++ drop r.used r.log) _ size.0 in
           record { earlier = F.earlier; accepted = F.accepted.2; state = refl; lent = F.lent; ends = refl; stands = e }
 
       -- and an undo leads there: it answers 0, value 255 and who ran then, and gives that state and used length,
-      pub undo-given : given r undo ≡ led_back (stood_at start gone calls r.log)
+      pub undo_given : given r undo ≡ led_back (stood_at start gone calls r.log)
       unfolding UndoneIsThat
-      undo-given =
+      undo_given =
           let q = replayed first calls in
           let (b, a, _) = F.accepted in
           let Y : Yields q bytes r.kernel (last_note r.log r.used) =
-          rw (F.state, last-is) (accepted_yields q bytes (run-kept run-follows) b a) in
+          rw (F.state, last_is) (accepted_yields q bytes (run_kept run_follows) b a) in
           let (n, k, u) = undone_is_that_lem r.kernel r.log r.used q bytes Y in
-          let v = rw last-is at u in
+          let v = rw last_is at u in
           let (s, t) = size in
           let l : (undone r.kernel r.log r.used).used ≡ (stood_at start gone calls []).used = omega arith in
           λ i. record { answer = n i; kernel = k i; used = l i }
 
       -- so that the run follows them
-      pub undo-follows : Follows start gone calls (after r undo)
-      undo-follows = rw undo-given run-follows
+      pub undo_follows : Follows start gone calls (after r undo)
+      undo_follows = rw undo_given run_follows
 
     -- from an empty log every undo keeps it: where no note is kept it answers 15 and changes nothing
-    pub any-undo-follows : {calls : List (List ℕ)} {r : Run} → start.used ≡ 0 → Follows start gone calls r
+    pub any_undo_follows : {calls : List (List ℕ)} {r : Run} → start.used ≡ 0 → Follows start gone calls r
         → Follows start gone (counting calls undo (given r undo).answer.number) (after r undo)
     unfolding undoes has_last
-    any-undo-follows {calls = []} {r = r} z F =
+    any_undo_follows {calls = []} {r = r} z F =
         let u : r.used ≡ 0 = rw (F.ends, z) in
-        let U = run-kept F in
+        let U = run_kept F in
         rw (not_undone r.kernel r.log r.used (rules_hold r.kernel U.types.sized U.rules) (rw u)) F
-    any-undo-follows {calls = bytes ∷ calls} z F = rw (undo-given F) (run-follows F)
+    any_undo_follows {calls = bytes ∷ calls} z F = rw (undo_given F) (run_follows F)

@@ -11,7 +11,7 @@ use borrow.Author.Tests.{eqb-true}
 use borrow.Table.Steps.{cases}
 use Rattle.spec_kernel.specs.declared.records.Kernel.{Kernel}
 use Rattle.spec_rules.proofs.Exactly.{rules_hold}
-use Rattle.spec_notes.proofs.Undoing.{state-found}
+use Rattle.spec_notes.proofs.Undoing.{state_found}
 use Rattle.spec_answers.specs.Steps.{called}
 use Rattle.spec_answers.specs.declared.Logged.{Logged}
 use Rattle.spec_answers.specs.Logs.{note_for, undone, reached, one_more, many_by, undone_many}
@@ -19,8 +19,8 @@ use Rattle.spec_answers.specs.Runs.{Undamaged, AreRecords, replayed, Accepts, no
 use Rattle.spec_answers.specs.Runs.{AreSteps, after_all, counted, after_calls, accepted_of, accepted_from}
 use Rattle.spec_answers.specs.Runs.{led_back, stood_at, undone_times}
 use Rattle.spec_answers.specs.Promises.{RunsFollow, LogLeadsBack, LogLeadsBackAtOnce, LedBetween, NotesLeadBack, AnyMix}
-use Rattle.spec_answers.proofs.Following.{accepted_yields, replayed_kept, call_follows, run-kept}
-use Rattle.spec_answers.proofs.Following.{undo-given, undo-follows, any-undo-follows}
+use Rattle.spec_answers.proofs.Following.{accepted_yields, replayed_kept, call_follows, run_kept}
+use Rattle.spec_answers.proofs.Following.{undo_given, undo_follows, any_undo_follows}
 
 -- at its start a run follows no calls
 pub begun : (start : Run) → Follows start [] [] start
@@ -38,29 +38,29 @@ module _ (start : Run) (gone : List (List ℕ)) where
 
   module _ (K : Undamaged start.kernel) where
     -- and from an empty log calls and undos those that count
-    pub steps-follow : {calls : List (List ℕ)} {r : Run} (steps : List Step) → start.used ≡ 0 → AreSteps steps
+    pub steps_follow : {calls : List (List ℕ)} {r : Run} (steps : List Step) → start.used ≡ 0 → AreSteps steps
         → Follows start gone calls r → Follows start gone (counted calls r steps) (after_all r steps)
-    steps-follow [] z _ F = F
-    steps-follow (call bytes ∷ steps) z (b, bs) F = steps-follow steps z bs (call_follows start gone bytes b F)
-    steps-follow (undo ∷ steps) z bs F = steps-follow steps z bs (any-undo-follows start gone K z F)
+    steps_follow [] z _ F = F
+    steps_follow (call bytes ∷ steps) z (b, bs) F = steps_follow steps z bs (call_follows start gone bytes b F)
+    steps_follow (undo ∷ steps) z bs F = steps_follow steps z bs (any_undo_follows start gone K z F)
 
     -- to undo the notes of the later calls leads to where the others did
-    pub times-undone : {r : Run} (calls later : List (List ℕ)) → Follows start gone (later ++ calls) r
+    pub times_undone : {r : Run} (calls later : List (List ℕ)) → Follows start gone (later ++ calls) r
         → undone_times (length later) r ≡ led_back (stood_at start gone calls r.log)
-    times-undone calls [] F = rw (F.state, F.ends)
-    times-undone calls (bytes ∷ []) F = undo-given start gone K F
-    times-undone calls (bytes ∷ next ∷ later) F = times-undone calls (next ∷ later) (undo-follows start gone K F)
+    times_undone calls [] F = rw (F.state, F.ends)
+    times_undone calls (bytes ∷ []) F = undo_given start gone K F
+    times_undone calls (bytes ∷ next ∷ later) F = times_undone calls (next ∷ later) (undo_follows start gone K F)
 
     -- and so it does in one call
-    pub many-undone : {r : Run} (calls later : List (List ℕ)) → Follows start gone (later ++ calls) r
+    pub many_undone : {r : Run} (calls later : List (List ℕ)) → Follows start gone (later ++ calls) r
         → many_by undone (length later) r.kernel r.log r.used
         ≡ reached (led_back (stood_at start gone calls r.log)) (length later)
-    many-undone calls [] F = rw (F.state, F.ends)
-    many-undone {r} calls (bytes ∷ later) F =
+    many_undone calls [] F = rw (F.state, F.ends)
+    many_undone {r} calls (bytes ∷ later) F =
         let z : eqb (undone r.kernel r.log r.used).answer.number 0 ≡ true =
-        ap (λ (x : Logged). eqb x.answer.number 0) (undo-given start gone K F) in
+        ap (λ (x : Logged). eqb x.answer.number 0) (undo_given start gone K F) in
         rw z
-        (ap one_more (many-undone calls later (undo-follows start gone K F)))
+        (ap one_more (many_undone calls later (undo_follows start gone K F)))
 
 pub runs_follow : RunsFollow
 unfolding RunsFollow
@@ -68,14 +68,14 @@ runs_follow start records b = calls_follow start [] records b (begun start)
 
 pub any_mix : AnyMix
 unfolding AnyMix
-any_mix start steps U z b = steps-follow start [] U steps z b (begun start)
+any_mix start steps U z b = steps_follow start [] U steps z b (begun start)
 
 pub log_leads_back : LogLeadsBack
 unfolding LogLeadsBack RunsFollow
 log_leads_back start records j U b h =
     let l = accepted_of start records in
     let F = rw (← take-append-drop j l) at (runs_follow start records b) in
-    rw (length-take-le j l h) at (times-undone start [] U (drop j l) (take j l) F)
+    rw (length-take-le j l h) at (times_undone start [] U (drop j l) (take j l) F)
 
 pub log_leads_back_at_once : LogLeadsBackAtOnce
 unfolding LogLeadsBackAtOnce RunsFollow undone_many
@@ -83,18 +83,18 @@ log_leads_back_at_once start records j U b h =
     let l = accepted_of start records in
     let r : Run = after_calls start records in
     let F = rw (← take-append-drop j l) at (runs_follow start records b) in
-    let K = run-kept start [] U F in
+    let K = run_kept start [] U F in
     rw (rules_hold r.kernel K.types.sized K.rules)
-    (rw (length-take-le j l h) at (many-undone start [] U (drop j l) (take j l) F))
+    (rw (length-take-le j l h) at (many_undone start [] U (drop j l) (take j l) F))
 
 pub led_between : LedBetween
 unfolding LedBetween RunsFollow
 led_between start earlier later U b c =
     let between : Run = after_calls start earlier in
-    let K = run-kept start [] U (runs_follow start earlier b) in
+    let K = run_kept start [] U (runs_follow start earlier b) in
     let F = rw (← append-nil (accepted_of between later)) at (runs_follow between later c) in
     let u : between.used + 0 ≡ between.used = omega arith in
-    rw u at (times-undone between [] K [] (accepted_of between later) F)
+    rw u at (times_undone between [] K [] (accepted_of between later) F)
 
 -- ---- over notes
 -- who comes and is accepted is accepted in its turn
@@ -112,7 +112,7 @@ lead_back k calls zero K A = refl
 lead_back k [] (suc j) K A = refl
 lead_back k (bytes ∷ calls) (suc j) K (b, a, A) =
     let q = replayed k calls in
-    rw (state-found (replayed k (bytes ∷ calls)) (note_for q bytes) (accepted_yields q bytes (replayed_kept k calls K A) b a))
+    rw (state_found (replayed k (bytes ∷ calls)) (note_for q bytes) (accepted_yields q bytes (replayed_kept k calls K A) b a))
     (lead_back k calls j K A)
 
 pub notes_lead_back : NotesLeadBack

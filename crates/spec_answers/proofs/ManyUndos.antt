@@ -20,7 +20,7 @@ use Rattle.spec_answers.specs.Logs.{logged, undone, undone_kept, reached, one_mo
 use Rattle.spec_answers.specs.Runs.{Run, undo, after, undone_times}
 use Rattle.spec_answers.specs.Promises.{BrokenIsRefused, BrokenUndoesNone, EachIsUndone, AllAreUndone, StopsAtRefusal, RulesAreKept}
 use Rattle.spec_answers.specs.Promises.{UndoneMany, OneReached}
-use Rattle.spec_answers.proofs.Undos.{one_of_three, led_back_lem, undone-if, undone-kept, rules-are-kept}
+use Rattle.spec_answers.proofs.Undos.{one_of_three, led_back_lem, undone_if_lem, undone_kept_lem, rules_are_kept_lem}
 
 -- where a run stands
 abbrev standing : Kernel → List ℕ → ℕ → Run
@@ -30,7 +30,7 @@ module _ (k : Kernel) (log : List ℕ) (used : ℕ) (T : OfTypes k) (R : Rules k
   -- after an undo that answers 0, n single undos are one more
   times_next : (n : ℕ) → (undone k log used).answer.number ≡ 0
       → undone_times (suc n) (standing k log used) ≡ undone_times n (after (standing k log used) undo)
-  times_next zero z = led_back_lem k log used (undoes k log used) (undone k log used) (undone-if k log used T R) z
+  times_next zero z = led_back_lem k log used (undoes k log used) (undone k log used) (undone_if_lem k log used T R) z
   times_next (suc n) z = refl
 
   -- one that doesn't answer 0 answers 15
@@ -66,12 +66,12 @@ module _ (log : List ℕ) (B : AreBytes log) where
     u = undone k log used
 
     -- the first is refused
-    refused-so : (u.answer.number ≡ 0 → ⊥) → So (suc n) (standing k log used) (reached u 0)
+    refused_so : (u.answer.number ≡ 0 → ⊥) → So (suc n) (standing k log used) (reached u 0)
     unfolding RulesAreKept
-    refused-so z =
+    refused_so z =
         let f = refused_is_15 k log used T R z in
         record {
-          kept = rules-are-kept k log used T B R;
+          kept = rules_are_kept_lem k log used T B R;
           number = λ e. omega arith;
           each = λ i h. absurd (omega arith);
           all = λ e. absurd (z e);
@@ -79,9 +79,9 @@ module _ (log : List ℕ) (B : AreBytes log) where
         }
 
     -- the first is undone, and then come the others
-    undone-so : u.answer.number ≡ 0 → (r : Reached) → So n (standing u.kernel log u.used) r
+    undone_so : u.answer.number ≡ 0 → (r : Reached) → So n (standing u.kernel log u.used) r
         → So (suc n) (standing k log used) (one_more r)
-    undone-so z r S =
+    undone_so z r S =
         record {
           kept = S.kept;
           number = S.number;
@@ -99,10 +99,10 @@ module _ (log : List ℕ) (B : AreBytes log) where
   many_so zero k used T R = none_so k used T R
   many_so (suc n) k used T R =
       let r = undone k log used in
-      let (T', R') = rules-are-kept k log used T B R in
+      let (T', R') = rules_are_kept_lem k log used T B R in
       cases (eqb r.answer.number 0)
-      (λ e. rw e (undone-so k used T R n (eqb-true r.answer.number 0 e) _ (many_so n r.kernel r.used T' R')))
-      (λ e. rw e (refused-so k used T R n (eqb-false r.answer.number 0 e)))
+      (λ e. rw e (undone_so k used T R n (eqb-true r.answer.number 0 e) _ (many_so n r.kernel r.used T' R')))
+      (λ e. rw e (refused_so k used T R n (eqb-false r.answer.number 0 e)))
 
   -- they are as many without a test
   pub many_kept : (n : ℕ) (k : Kernel) (used : ℕ) → OfTypes k → Rules k → many_by undone n k log used ≡ many_by undone_kept n k log used
@@ -110,8 +110,8 @@ module _ (log : List ℕ) (B : AreBytes log) where
   many_kept zero k used T R = refl
   many_kept (suc n) k used T R =
       let r = undone k log used in
-      let (T', R') = rules-are-kept k log used T B R in
-      let e = undone-kept k log used T B R in
+      let (T', R') = rules_are_kept_lem k log used T B R in
+      let e = undone_kept_lem k log used T B R in
       rw (many_kept n r.kernel r.used T' R', e)
 
 -- ---- on any state

@@ -17,7 +17,7 @@ use Rattle.spec_notes.specs.Undo.{last_length, has_last, last_note, Yields}
 use Rattle.spec_notes.specs.Undoes.{undoes}
 use Rattle.spec_notes.proofs.Yields.{yields_kept}
 use Rattle.spec_notes.proofs.UndoingKept.{undoes_kept_lem}
-use Rattle.spec_notes.proofs.Undoing.{state-found, last_sizes, yields-last, yields-undoes, undo_exactly}
+use Rattle.spec_notes.proofs.Undoing.{state_found, last_sizes, yields_last, yields_undoes, undo_exactly}
 use Rattle.spec_answers.specs.declared.Answer.{Answer}
 use Rattle.spec_answers.specs.declared.Logged.{Logged}
 use Rattle.spec_answers.specs.Steps.{answer}
@@ -62,71 +62,71 @@ module _ (k : Kernel) (log : List ℕ) (used : ℕ) where
   unfolding UndoneIsThat undone
   undone_is_that_lem before bytes Y =
       let (Z, R, _, _) = yields_kept Y in
-      let s : back_at k log used ≡ before = state-found k (last_note log used) Y in
-      let (n, _, b) = last_sizes log used (yields-last log used Y) in
-      rw (rules_hold k Z R, yields-undoes log used Y, s) (refl, refl, rw n (omega arith))
+      let s : back_at k log used ≡ before = state_found k (last_note log used) Y in
+      let (n, _, b) = last_sizes log used (yields_last log used Y) in
+      rw (rules_hold k Z R, yields_undoes log used Y, s) (refl, refl, rw n (omega arith))
 
   module _ (T : OfTypes k) where
     -- where it keeps its rules the note decides
-    pub undone-if : Rules k → undone k log used ≡ undone_if (undoes k log used) k log used
+    pub undone_if_lem : Rules k → undone k log used ≡ undone_if (undoes k log used) k log used
     unfolding undone
-    undone-if R = rw (rules_hold k T.sized R)
+    undone_if_lem R = rw (rules_hold k T.sized R)
 
-    broken-is-refused : BrokenIsRefused k (undone k log used)
+    broken_is_refused_lem : BrokenIsRefused k (undone k log used)
     unfolding BrokenIsRefused
-    broken-is-refused =
+    broken_is_refused_lem =
         let Z = T.sized in
         one_of_three (λ x. (x.answer.number ≡ 14) ↔ (Rules k → ⊥))
         (λ e _. (λ z. absurd (omega arith), λ n. absurd (n (rules_mean k Z e))))
         (λ e _. (λ z. absurd (omega arith), λ n. absurd (n (rules_mean k Z e))))
         (λ e. (λ _ R. false≢true (sym e ∙ rules_hold k Z R), λ _. refl))
 
-    broken-is-left : BrokenIsLeft k used (undone k log used)
+    broken_is_left_lem : BrokenIsLeft k used (undone k log used)
     unfolding BrokenIsLeft
-    broken-is-left n =
+    broken_is_left_lem n =
         let Z = T.sized in
         one_of_three (λ x. x ≡ logged (answer 14 255 255) k used)
         (λ e _. absurd (n (rules_mean k Z e))) (λ e _. absurd (n (rules_mean k Z e))) (λ _. refl)
 
     module _ (B : AreBytes log) where
       -- and no test is needed, nor a look at what the note doesn't speak of
-      pub undone-kept : Rules k → undone k log used ≡ undone_kept k log used
+      pub undone_kept_lem : Rules k → undone k log used ≡ undone_kept k log used
       unfolding undone_kept
-      undone-kept R = undone-if R ∙ ap (λ (b : Bool). undone_if b k log used) (sym (undoes_kept_lem log used k T.sized R T.within B))
+      undone_kept_lem R = undone_if_lem R ∙ ap (λ (b : Bool). undone_if b k log used) (sym (undoes_kept_lem log used k T.sized R T.within B))
 
       -- what is undone was yielded
-      was-yielded : keeps_rules k ≡ true → undoes k log used ≡ true
+      was_yielded : keeps_rules k ≡ true → undoes k log used ≡ true
           → ((before : Kernel) × (bytes : List ℕ) × Yields before bytes k (last_note log used))
-      was-yielded e u = (undo_exactly log used k T.sized (rules_mean k T.sized e) T.within B).0 u
+      was_yielded e u = (undo_exactly log used k T.sized (rules_mean k T.sized e) T.within B).0 u
 
-      undone-exactly : UndoneExactly k log used (undone k log used)
+      undone_exactly_lem : UndoneExactly k log used (undone k log used)
       unfolding UndoneExactly UndoneIsThat
-      undone-exactly = (
+      undone_exactly_lem = (
         one_of_three (λ x. x.answer.number ≡ 0 → (before : Kernel) × (bytes : List ℕ) × Yields before bytes k (last_note log used))
-            (λ e u _. was-yielded e u) (λ _ _ z. absurd (omega arith)) (λ _ z. absurd (omega arith)),
+            (λ e u _. was_yielded e u) (λ _ _ z. absurd (omega arith)) (λ _ z. absurd (omega arith)),
         λ y. ap (λ (x : Answer). x.number) (undone_is_that_lem y.0 y.1 y.2).0,
       )
 
-      undo-refused : UndoRefused k log used (undone k log used)
+      undo_refused_lem : UndoRefused k log used (undone k log used)
       unfolding UndoRefused
-      undo-refused R none =
+      undo_refused_lem R none =
           one_of_three (λ x. x ≡ logged (answer 15 255 k.runner) k used)
-          (λ e u. let (b, bytes, Y) = was-yielded e u in absurd (none b bytes Y)) (λ _ _. refl)
+          (λ e u. let (b, bytes, Y) = was_yielded e u in absurd (none b bytes Y)) (λ _ _. refl)
           (λ e. absurd (false≢true (sym e ∙ rules_hold k T.sized R)))
 
-      nothing-to-undo : NothingToUndo k log used (undone k log used)
+      nothing_to_undo_lem : NothingToUndo k log used (undone k log used)
       unfolding NothingToUndo UndoRefused
-      nothing-to-undo R empty =
-          undo-refused R
-          (λ before bytes Y. let (a, b) = last_there (yields-last log used Y) in ⊎_elim (λ z. omega arith) (λ z. omega arith) empty)
+      nothing_to_undo_lem R empty =
+          undo_refused_lem R
+          (λ before bytes Y. let (a, b) = last_there (yields_last log used Y) in ⊎_elim (λ z. omega arith) (λ z. omega arith) empty)
 
       -- the earlier state was the one before an accepted call, and such a one keeps the rules
-      pub rules-are-kept : RulesAreKept k (undone k log used)
+      pub rules_are_kept_lem : RulesAreKept k (undone k log used)
       unfolding RulesAreKept
-      rules-are-kept R =
+      rules_are_kept_lem R =
           one_of_three (λ x. OfTypes x.kernel × Rules x.kernel)
-          (λ e u. let (_, _, Y) = was-yielded e u in
-          rw (state-found k (last_note log used) Y) (record { sized = Y.sized; within = Y.inside }, Y.rules))
+          (λ e u. let (_, _, Y) = was_yielded e u in
+          rw (state_found k (last_note log used) Y) (record { sized = Y.sized; within = Y.inside }, Y.rules))
           (λ _ _. (T, R)) (λ _. (T, R))
 
 -- ---- the promises
@@ -134,19 +134,19 @@ pub undoes_so : (k : Kernel) (log : List ℕ) (used : ℕ) → OfTypes k → Are
 undoes_so k log used T B =
     record {
       result = refl;
-      broken_is_refused = broken-is-refused k log used T;
-      broken_is_left = broken-is-left k log used T;
-      undone_exactly = undone-exactly k log used T B;
+      broken_is_refused = broken_is_refused_lem k log used T;
+      broken_is_left = broken_is_left_lem k log used T;
+      undone_exactly = undone_exactly_lem k log used T B;
       undone_is_that = undone_is_that_lem k log used;
-      undo_refused = undo-refused k log used T B;
-      nothing_to_undo = nothing-to-undo k log used T B;
-      rules_are_kept = rules-are-kept k log used T B;
+      undo_refused = undo_refused_lem k log used T B;
+      nothing_to_undo = nothing_to_undo_lem k log used T B;
+      rules_are_kept = rules_are_kept_lem k log used T B;
     }
 
 pub undoes_untested : (k : Kernel) (log : List ℕ) (used : ℕ) → OfTypes k → AreBytes log
     → UndoneUntested k log used (undone_kept k log used)
 undoes_untested k log used T B =
-    record { result = refl; promised = λ R. rw (undone-kept k log used T B R) at (undoes_so k log used T B) }
+    record { result = refl; promised = λ R. rw (undone_kept_lem k log used T B R) at (undoes_so k log used T B) }
 
 -- so a state that keeps the rules is undone to one that does
 pub rules_go_back : {k : Kernel} {log : List ℕ} {used : ℕ} {r : Logged} → UndoneUntested k log used r → Rules k → Rules r.kernel

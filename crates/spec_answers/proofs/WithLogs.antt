@@ -10,7 +10,7 @@ use lib.ListN.{length}
 use borrow.Author.Tests.{eqb-true, eqb-false, eq-eqb, ne_eqb, leb-true}
 use borrow.Table.Steps.{cases}
 use Rattle.base_bytes.specs.Logs.{room, with_note, noted, shown}
-use Rattle.base_bytes.proofs.Appending.{noted-room, noted_length}
+use Rattle.base_bytes.proofs.Appending.{noted_room, noted_length}
 use Rattle.spec_kernel.specs.declared.records.Kernel.{Kernel}
 use Rattle.spec_rules.specs.Rules.{Rules, FirstRuns}
 use Rattle.spec_rules.specs.Tests.{keeps_rules}
@@ -55,7 +55,7 @@ leaves_runner k c = ap (λ t. with_runner t (effect k c)) (sym (effect_runner k 
 
 -- ---- a log with a note behind its used part
 pub with_length : (log : List ℕ) (used : ℕ) (note : List ℕ) → used + length note ≤ length log → length (with_note log used note) ≡ length log
-with_length log used note h = rw (← noted-room log used note h) (noted_length log used note)
+with_length log used note h = rw (← noted_room log used note h) (noted_length log used note)
 
 -- ---- a call with a log: what comes back, the log, the part, and what comes back without a log
 module _ (k : Kernel) (bytes log : List ℕ) (used : ℕ) where
@@ -97,13 +97,13 @@ module _ (k : Kernel) (bytes log : List ℕ) (used : ℕ) where
         (λ e. rw e (n (eqb-false number 0 e)))
 
     -- or the state breaks a rule
-    pub one-of-four : (keeps_rules k ≡ true → number ≡ 0 → room log used note ≡ true → Written)
+    pub one_of_four : (keeps_rules k ≡ true → number ≡ 0 → room log used note ≡ true → Written)
         → (keeps_rules k ≡ true → number ≡ 0 → room log used note ≡ false → Left 13 (accepted k (call_of bytes)))
         → (keeps_rules k ≡ true → (number ≡ 0 → ⊥) → Left number (refused number k))
         → (keeps_rules k ≡ false → P (logged (answer 14 255 255) k used) log [] (record { answer = answer 14 255 255; kernel = k }))
         → P given log' part (called k bytes)
     unfolding called_with log_called part_called called
-    one-of-four a f n b = cases (keeps_rules k) (λ e. rw e (one_of_three (a e) (f e) (n e))) (λ e. rw e (b e))
+    one_of_four a f n b = cases (keeps_rules k) (λ e. rw e (one_of_three (a e) (f e) (n e))) (λ e. rw e (b e))
 
   -- ---- which number
   -- on a state that keeps the rules 14 isn't given, and 13 where the twelve don't apply
@@ -115,7 +115,7 @@ module _ (k : Kernel) (bytes log : List ℕ) (used : ℕ) where
   -- the number of the answer is the first of the table that applies
   number_first : given.answer.number ≡ first_that_applies (numbers_of k bytes log used)
   number_first =
-      one-of-four (λ x _ _ _. x.answer.number ≡ first_that_applies (numbers_of k bytes log used))
+      one_of_four (λ x _ _ _. x.answer.number ≡ first_that_applies (numbers_of k bytes log used))
       (λ e n b. rw (first_of_kept e, eq-eqb number 0 n, b)) (λ e n b. rw (first_of_kept e, eq-eqb number 0 n, b))
       (λ e n. rw (first_of_kept e, ne_eqb number 0 n)) (λ e. rw e)
 
@@ -130,7 +130,7 @@ module _ (k : Kernel) (bytes log : List ℕ) (used : ℕ) where
   refusal_changes_nothing_lem : RefusalChangesNothing k log used given log'
   unfolding RefusalChangesNothing
   refusal_changes_nothing_lem =
-      one-of-four
+      one_of_four
       (λ x l _ _. (x.answer.number ≡ 0 → ⊥)
       → (x.kernel ≡ k) × (x.used ≡ used) × (l ≡ log) × (x.answer.value ≡ 255)
       × ((x.answer.number ≡ 14 → ⊥) → x.answer.runner ≡ k.runner) × (x.answer.number ≡ 14 → x.answer.runner ≡ 255))
@@ -142,7 +142,7 @@ module _ (k : Kernel) (bytes log : List ℕ) (used : ℕ) where
   note_is_written_lem : NoteIsWritten k bytes log used given log'
   unfolding NoteIsWritten
   note_is_written_lem =
-      one-of-four
+      one_of_four
       (λ x l _ _. x.answer.number ≡ 0
       → (used + length note ≤ length log) × (l ≡ with_note log used note) × (length l ≡ length log) × (x.used ≡ used + length note))
       (λ _ _ b _. let h = leb-true (used + length note) (length log) b in (h, refl, with_length log used note h, refl))
@@ -152,67 +152,67 @@ module _ (k : Kernel) (bytes log : List ℕ) (used : ℕ) where
   pub never_16 : given.answer.number ≡ 16 → ⊥
   unfolding number_of
   never_16 =
-      one-of-four (λ x _ _ _. x.answer.number ≡ 16 → ⊥) (λ _ _ _ z. omega arith) (λ _ _ _ z. omega arith)
+      one_of_four (λ x _ _ _. x.answer.number ≡ 16 → ⊥) (λ _ _ _ z. omega arith) (λ _ _ _ z. omega arith)
       (λ _ _. lacks_first 16 (refusals k (call_of bytes)) refl (λ z. omega arith)) (λ _ z. omega arith)
 
   -- ---- with what the types give
   module _ (T : OfTypes k) where
-    tested-exactly : TestedExactly k
+    tested_exactly_lem : TestedExactly k
     unfolding TestedExactly
-    tested-exactly = (rules_mean k T.sized, rules_hold k T.sized)
+    tested_exactly_lem = (rules_mean k T.sized, rules_hold k T.sized)
 
-    broken-is-refused : BrokenIsRefused k given
+    broken_is_refused_lem : BrokenIsRefused k given
     unfolding BrokenIsRefused
-    broken-is-refused =
+    broken_is_refused_lem =
         let Z = T.sized in
-        one-of-four (λ x _ _ _. (x.answer.number ≡ 14) ↔ (Rules k → ⊥))
+        one_of_four (λ x _ _ _. (x.answer.number ≡ 14) ↔ (Rules k → ⊥))
         (λ e _ _. (λ z. absurd (omega arith), λ n. absurd (n (rules_mean k Z e))))
         (λ e _ _. (λ z. absurd (omega arith), λ n. absurd (n (rules_mean k Z e))))
         (λ e _. (λ z. absurd (never_14 k (call_of bytes) z), λ n. absurd (n (rules_mean k Z e))))
         (λ e. (λ _ R. false≢true (sym e ∙ rules_hold k Z R), λ _. refl))
 
-    runner-is-answered : RunnerIsAnswered k given
+    runner_is_answered_lem : RunnerIsAnswered k given
     unfolding RunnerIsAnswered
-    runner-is-answered =
-        one-of-four (λ x _ _ _. Rules k → x.answer.runner ≡ x.kernel.runner)
+    runner_is_answered_lem =
+        one_of_four (λ x _ _ _. Rules k → x.answer.runner ≡ x.kernel.runner)
         (λ _ _ _ _. refl) (λ _ _ _ _. refl) (λ _ _ _. refl) (λ e R. absurd (false≢true (sym e ∙ rules_hold k T.sized R)))
 
-    runner-stays-in-region : RunnerStaysInRegion k given
+    runner_stays_in_region_lem : RunnerStaysInRegion k given
     unfolding RunnerStaysInRegion scheduled
-    runner-stays-in-region =
+    runner_stays_in_region_lem =
         let n = effect k (call_of bytes) in
-        one-of-four (λ x _ _ _. Rules k → 0 < x.kernel.unscheduled + x.kernel.critical → x.kernel.runner ≡ k.runner)
+        one_of_four (λ x _ _ _. Rules k → 0 < x.kernel.unscheduled + x.kernel.critical → x.kernel.runner ≡ k.runner)
         (λ _ _ _ _ b. rw (ne_eqb (n.unscheduled + n.critical) 0 (λ z. omega arith)) (effect_runner k (call_of bytes)))
         (λ _ _ _ _ _. refl) (λ _ _ _ _. refl) (λ _ _ _. refl)
 
-    kind-does : KindDoes k bytes given
+    kind_does_lem : KindDoes k bytes given
     unfolding KindDoes
-    kind-does =
+    kind_does_lem =
         let c = call_of bytes in
-        one-of-four (λ x _ _ _. x.answer.number ≡ 0 → law_of k c x.answer.value (with_runner k.runner x.kernel))
+        one_of_four (λ x _ _ _. x.answer.number ≡ 0 → law_of k c x.answer.value (with_runner k.runner x.kernel))
         (λ e n _ _. rw (leaves_runner k c)
         (laws_kept k c T.sized (rules_mean k T.sized e) T.within.unscheduled T.within.critical n))
         (λ _ _ _ z. absurd (omega arith)) (λ _ n z. absurd (n z)) (λ _ z. absurd (omega arith))
 
     module _ (B : IsRecord bytes) where
-      rules-are-kept : RulesAreKept k given
+      rules_are_kept_lem : RulesAreKept k given
       unfolding RulesAreKept
-      rules-are-kept =
+      rules_are_kept_lem =
           let Z = T.sized in
           let c = call_of bytes in
-          one-of-four (λ x _ _ _. Rules k → OfTypes x.kernel × Rules x.kernel)
+          one_of_four (λ x _ _ _. Rules k → OfTypes x.kernel × Rules x.kernel)
           (λ _ n _ R. let (Z', R') = rules_kept k c Z R n in
           (record { sized = Z'; within = within_kept k c Z R T.within (call_within bytes B.1) n }, R'))
           (λ _ _ _ R. (T, R)) (λ _ _ R. (T, R)) (λ _ R. (T, R))
 
-      first-ready-runs : FirstReadyRuns k given
+      first_ready_runs_lem : FirstReadyRuns k given
       unfolding FirstReadyRuns RulesAreKept FirstRuns
-      first-ready-runs R = (rules-are-kept R).1.first_runs
+      first_ready_runs_lem R = (rules_are_kept_lem R).1.first_runs
 
-      notes-are-short : NotesAreShort k bytes given
+      notes_are_short_lem : NotesAreShort k bytes given
       unfolding NotesAreShort note_for
-      notes-are-short =
-          one-of-four
+      notes_are_short_lem =
+          one_of_four
           (λ x _ _ _. x.answer.number ≡ 0
           → ((T : ℕ) × (S : ℕ) × (M : ℕ) × (F : ℕ) × Differ k x.kernel T S M F × (length note ≤ most_bytes T S M F)))
           (λ e n _ _. let Z = T.sized in
@@ -229,18 +229,18 @@ answers k bytes log used T B =
     record {
       result = refl;
       written = refl;
-      broken_is_refused = broken-is-refused k bytes log used T;
-      tested_exactly = tested-exactly k bytes log used T;
+      broken_is_refused = broken_is_refused_lem k bytes log used T;
+      tested_exactly = tested_exactly_lem k bytes log used T;
       refused_exactly = refused_exactly_lem k bytes log used;
       accepted_exactly = accepted_exactly_lem k bytes log used;
       refusal_changes_nothing = refusal_changes_nothing_lem k bytes log used;
-      kind_does = kind-does k bytes log used T;
-      rules_are_kept = rules-are-kept k bytes log used T B;
-      runner_is_answered = runner-is-answered k bytes log used T;
-      first_ready_runs = first-ready-runs k bytes log used T B;
-      runner_stays_in_region = runner-stays-in-region k bytes log used T;
+      kind_does = kind_does_lem k bytes log used T;
+      rules_are_kept = rules_are_kept_lem k bytes log used T B;
+      runner_is_answered = runner_is_answered_lem k bytes log used T;
+      first_ready_runs = first_ready_runs_lem k bytes log used T B;
+      runner_stays_in_region = runner_stays_in_region_lem k bytes log used T;
       note_is_written = note_is_written_lem k bytes log used;
-      notes_are_short = notes-are-short k bytes log used T B;
+      notes_are_short = notes_are_short_lem k bytes log used T B;
     }
 
 pub answers_untested : (k : Kernel) (bytes log : List ℕ) (used : ℕ) → OfTypes k → IsRecord bytes
@@ -260,10 +260,10 @@ appends k bytes log used =
     record {
       result = refl;
       note_is_handed_back =
-          one-of-four k bytes log used (λ x _ p _. x.answer.number ≡ 0 → p ≡ note_for k bytes)
+          one_of_four k bytes log used (λ x _ p _. x.answer.number ≡ 0 → p ≡ note_for k bytes)
           (λ _ _ _ _. refl) (λ _ _ _ z. absurd (omega arith)) (λ _ n z. absurd (n z)) (λ _ z. absurd (omega arith));
       refused_is_empty =
-          one-of-four k bytes log used (λ x _ p _. (x.answer.number ≡ 0 → ⊥) → length p ≡ 0)
+          one_of_four k bytes log used (λ x _ p _. (x.answer.number ≡ 0 → ⊥) → length p ≡ 0)
           (λ _ _ _ n. absurd (n refl)) (λ _ _ _ _. refl) (λ _ _ _. refl) (λ _ _. refl);
     }
 
@@ -278,6 +278,6 @@ one_part k bytes log used p q A B = A.result ∙ sym B.result
 pub answered_alike : AnsweredAlike
 unfolding AnsweredAlike
 answered_alike k bytes log used =
-    one-of-four k bytes log used
+    one_of_four k bytes log used
     (λ x _ _ s. (x.answer.number ≡ 13 → ⊥) → (x.answer ≡ s.answer) × (x.kernel ≡ s.kernel))
     (λ _ _ _ _. (refl, refl)) (λ _ _ _ n. absurd (n refl)) (λ _ _ _. (refl, refl)) (λ _ _. (refl, refl))

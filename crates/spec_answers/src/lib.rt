@@ -2,7 +2,7 @@
 use spec_kernel::records::Kernel;
 
 // What comes back of a call: a number, a value, and who runs (255 for none).
-#[derive(Drop)]
+#[derive(Clone, Copy)]
 pub struct Answer {
     pub number: u8,
     pub value: u8,
@@ -11,7 +11,7 @@ pub struct Answer {
 
 // The answer, the next state (an undo: the earlier one), and how much of the log is used then. The state comes first: behind three bytes
 // the compiler copies it once more.
-#[derive(Drop)]
+#[derive(Clone, Copy)]
 pub struct Logged {
     pub kernel: Kernel,
     pub answer: Answer,
@@ -19,7 +19,7 @@ pub struct Logged {
 }
 
 // Many undos in one call: what the last of them gave, and how many notes were undone.
-#[derive(Drop)]
+#[derive(Clone, Copy)]
 pub struct Reached {
     pub kernel: Kernel,
     pub answer: Answer,

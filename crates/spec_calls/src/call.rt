@@ -1,5 +1,5 @@
 // A call record.
-#[derive(Drop)]
+#[derive(Clone, Copy)]
 pub struct Call {
     pub kind: u8,
     pub a: u8,

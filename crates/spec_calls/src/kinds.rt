@@ -31,7 +31,7 @@ pub const ALL: u8 = 8;
 pub const LAST_KIND: u8 = 34;
 
 // A row of the table: `used` has a bit for each field with a meaning, 1 for a, 2 for b, 4 for c, 8 for d.
-#[derive(Drop)]
+#[derive(Clone, Copy)]
 pub struct Kind {
     pub caller: u8,
     pub used: u8,

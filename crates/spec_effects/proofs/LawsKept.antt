@@ -12,7 +12,7 @@ use Rattle.spec_kernel.specs.Records.{semaphore, message, no_thread, no_semaphor
 use Rattle.spec_kernel.specs.Free.{free_thread, free_semaphore, free_message, free_flag}
 use Rattle.spec_kernel.specs.Places.{is_queued}
 use Rattle.spec_kernel.specs.Channels.{next_message}
-use Rattle.spec_kernel.proofs.LowestFree.{free-is-free, free-is-lowest}
+use Rattle.spec_kernel.proofs.LowestFree.{free_is_free, free_is_lowest}
 use Rattle.spec_rules.specs.Rules.{Sized, Rules}
 use Rattle.spec_calls.specs.declared.call.Call.{Call}
 use Rattle.spec_calls.specs.Kinds.{kinds, no_kind, names, kind_of, from_thread}
@@ -31,15 +31,15 @@ use Rattle.spec_laws.specs.OfSemaphores.{CreatedSemaphore, PostedSemaphore}
 use Rattle.spec_laws.specs.OfMessages.{CreatedMessage, PendedMessage}
 use Rattle.spec_laws.specs.OfEvents.{BitIs}
 use Rattle.spec_laws.specs.OfFlags.{CreatedFlag}
-use Rattle.spec_threads.proofs.LawsOfThreads.{create-creates, yield_yields, set-priority-sets, reset-priority-sets}
+use Rattle.spec_threads.proofs.LawsOfThreads.{create_creates, yield_yields, set_priority_sets, reset_priority_sets}
 use Rattle.spec_threads.proofs.LawsOfDestroying.{destroy_destroys}
 use Rattle.spec_threads.proofs.LawsOfBlocking.{sleep_blocks}
 use Rattle.spec_regions.proofs.LawsOfRegions.{push_unscheduled_lem, pop_unscheduled_lem, pop_all_unscheduled_lem}
 use Rattle.spec_regions.proofs.LawsOfRegions.{push_critical_lem, pop_critical_lem, pop_all_critical_lem}
-use Rattle.spec_semaphores.proofs.LawsOfSemaphores.{create_makes, destroy-clears, make-replaces, remove-clears, post_posts, pend_pends}
+use Rattle.spec_semaphores.proofs.LawsOfSemaphores.{create_makes, destroy_clears, make_replaces, remove_clears, post_posts, pend_pends}
 use Rattle.spec_events.proofs.LawsOfEvents.{set_sets, clear_clears, load_loads, pend_event_pends}
-use Rattle.spec_flags.proofs.LawsOfFlags.{create_flag_creates, destroy_flag_clears, pend-flag-pends, post-flag-posts}
-use Rattle.spec_messages.proofs.LawsOfMessages.{pend_message_pends, post_message_posts, create-message-makes, destroy-message-clears}
+use Rattle.spec_flags.proofs.LawsOfFlags.{create_flag_creates, destroy_flag_clears, pend_flag_pends, post_flag_posts}
+use Rattle.spec_messages.proofs.LawsOfMessages.{pend_message_pends, post_message_posts, create_message_makes, destroy_message_clears}
 use Rattle.spec_time.proofs.LawsOfTime.{tick_ticks}
 use Rattle.proof_rules.proofs.Core.{live_thread, live_semaphore, live_message}
 use Rattle.proof_rules.proofs.Ends.{Before, before}
@@ -61,9 +61,9 @@ module _ {k : Kernel} (B : Before k) {c : Call} (A : Accepted k c) where
   kind_2 e =
       let (low, high) = inside 1 priority_count c.a (simp (e, or-false) at A.numbers) in
       let n = eqb-false (free_thread k) 255 (simp (e, or-false) at A.free) in
-      let (_, free) = free-is-free (λ r. r.live) no_thread k.threads n in
+      let (_, free) = free_is_free (λ r. r.live) no_thread k.threads n in
       let L : Created c.a (free_thread k) k (create_thread k c) =
-      create-creates k c B.core.standing (omega arith) n (rw ((B.core.threads (free_thread k)).gone free)) in
+      create_creates k c B.core.standing (omega arith) n (rw ((B.core.threads (free_thread k)).gone free)) in
       by_kind k c e _ L
 
   kind_3 : c.kind ≡ 3 → Holds (destroy_thread k c)
@@ -75,13 +75,13 @@ module _ {k : Kernel} (B : Before k) {c : Call} (A : Accepted k c) where
   unfolding bad_number
   kind_4 e =
       let (low, high) = inside 1 priority_count c.b (simp (e, or-false) at A.numbers) in
-      by_kind k c e _ (refl, set-priority-sets k c B.core.standing (thread_named A e refl) (omega arith))
+      by_kind k c e _ (refl, set_priority_sets k c B.core.standing (thread_named A e refl) (omega arith))
 
   kind_5 : c.kind ≡ 5 → Holds (reset_priority k c)
   kind_5 e =
       let l = thread_named A e refl in
       let p = ((B.core.threads c.a).living l).priority in
-      by_kind k c e _ (refl, reset-priority-sets k c B.core.standing l (omega arith))
+      by_kind k c e _ (refl, reset_priority_sets k c B.core.standing l (omega arith))
 
   kind_6 : c.kind ≡ 6 → Holds (yielded k c)
   unfolding kind_of from_thread
@@ -123,11 +123,11 @@ module _ {k : Kernel} (B : Before k) {c : Call} (A : Accepted k c) where
       let (range, _) = neither (outside 1 65535 c.c) (ltb c.c c.b) (simp (e, or-false) at A.numbers) in
       let (_, high) = inside 1 65535 c.c range in
       let n = eqb-false (free_semaphore k) 255 (simp (e, or-false) at A.free) in
-      let (b, free) = free-is-free (λ r. r.live) no_semaphore k.semaphores n in
+      let (b, free) = free_is_free (λ r. r.live) no_semaphore k.semaphores n in
       let L : CreatedSemaphore c.b c.c (free_semaphore k) k (create_semaphore k c) =
       record {
         free = free;
-        lowest = free-is-lowest (λ r. r.live) no_semaphore k.semaphores n;
+        lowest = free_is_lowest (λ r. r.live) no_semaphore k.semaphores n;
         made = create_makes k c b (omega arith);
       } in
       by_kind k c e _ L
@@ -137,13 +137,13 @@ module _ {k : Kernel} (B : Before k) {c : Call} (A : Accepted k c) where
   semaphore_id l = omega (arith, live_semaphore B.core c.a l, B.core.semaphores_sized)
 
   kind_15 : c.kind ≡ 15 → Holds (destroy_semaphore k c)
-  kind_15 e = by_kind k c e _ (refl, destroy-clears k c (semaphore_id (semaphore_named A e refl)))
+  kind_15 e = by_kind k c e _ (refl, destroy_clears k c (semaphore_id (semaphore_named A e refl)))
 
   kind_16 : c.kind ≡ 16 → Holds (make_periodic k c)
-  kind_16 e = by_kind k c e _ (refl, make-replaces k c (semaphore_id (semaphore_named A e refl)))
+  kind_16 e = by_kind k c e _ (refl, make_replaces k c (semaphore_id (semaphore_named A e refl)))
 
   kind_17 : c.kind ≡ 17 → Holds (remove_periodic k c)
-  kind_17 e = by_kind k c e _ (refl, remove-clears k c (semaphore_id (semaphore_named A e refl)))
+  kind_17 e = by_kind k c e _ (refl, remove_clears k c (semaphore_id (semaphore_named A e refl)))
 
   kind_18 : c.kind ≡ 18 → Holds (pend_semaphore k c)
   unfolding kind_of from_thread
@@ -195,12 +195,12 @@ module _ {k : Kernel} (B : Before k) {c : Call} (A : Accepted k c) where
   unfolding kind_of none_free named value_of
   kind_24 e =
       let n = eqb-false (free_message k) 255 (simp (e, or-false) at A.free) in
-      let (b, free) = free-is-free (λ r. r.live) no_message k.messages n in
+      let (b, free) = free_is_free (λ r. r.live) no_message k.messages n in
       let L : CreatedMessage c.b c.c c.d (free_message k) k (create_message k c) =
       record {
         free = free;
-        lowest = free-is-lowest (λ r. r.live) no_message k.messages n;
-        made = create-message-makes k B.core.filed c (omega (arith, B.core.filed.count)) free;
+        lowest = free_is_lowest (λ r. r.live) no_message k.messages n;
+        made = create_message_makes k B.core.filed c (omega (arith, B.core.filed.count)) free;
       } in
       by_kind k c e _ L
 
@@ -212,7 +212,7 @@ module _ {k : Kernel} (B : Before k) {c : Call} (A : Accepted k c) where
   kind_25 : c.kind ≡ 25 → Holds (destroy_message k c)
   kind_25 e =
       let b = live_message B.core c.a (message_named A e refl) in
-      by_kind k c e _ (refl, destroy-message-clears k B.core.filed c b (held e refl))
+      by_kind k c e _ (refl, destroy_message_clears k B.core.filed c b (held e refl))
 
   kind_26 : c.kind ≡ 26 → Holds (post_message k c)
   unfolding bad_number
@@ -247,10 +247,10 @@ module _ {k : Kernel} (B : Before k) {c : Call} (A : Accepted k c) where
   kind_33 : c.kind ≡ 33 → Holds (pend_flag k c)
   unfolding kind_of from_thread
   kind_33 e =
-      let (one, u) = pend_levels A e in by_kind k c e _ (refl, pend-flag-pends k c B.core.standing u one (runnable B A (rw e)))
+      let (one, u) = pend_levels A e in by_kind k c e _ (refl, pend_flag_pends k c B.core.standing u one (runnable B A (rw e)))
 
   kind_34 : c.kind ≡ 34 → Holds (post_flag k c)
-  kind_34 e = by_kind k c e _ (refl, post-flag-posts k c B.core.standing (bytes B.core))
+  kind_34 e = by_kind k c e _ (refl, post_flag_posts k c B.core.standing (bytes B.core))
 
   -- ---- the tick: each turn meets a state that keeps the core of the rules
   kind_1 : c.kind ≡ 1 → Holds (tick k c)

@@ -33,7 +33,7 @@ use Rattle.spec_events.specs.Events.{work_out, work_out_from, worked_out, load_e
 use Rattle.spec_threads.specs.Threads.{wake_in, woken_in}
 use Rattle.spec_threads.proofs.LawsOfHomes.{Runnable}
 use Rattle.spec_threads.proofs.LawsOfLists.{keep_none}
-use Rattle.spec_threads.proofs.LawsOfHomes.{line_home, line-absent, line-once, line_stopped}
+use Rattle.spec_threads.proofs.LawsOfHomes.{line_home, line_absent, line_once, line_stopped}
 use Rattle.spec_threads.proofs.LawsOfWaking.{Called, AllWoken, each_woken, Bytes, line_called}
 use Rattle.spec_threads.proofs.LawsOfBlocking.{block_blocks}
 use Rattle.spec_laws.specs.OfEvents.{waiters_from, WorkedOut, LoadedEvent, PendedEvent, BitIs}
@@ -99,13 +99,13 @@ module _ (met : ℕ → Bool) {p : Threads} (S : Standing p) (t : ℕ) where
   waiter_once i zero = omega arith
   waiter_once i (suc n) =
       let r = waiter_once (suc i) n in
-      let one = line-once S t (home of_events i) in
+      let one = line_once S t (home of_events i) in
       rw count_append
       (cases (met i)
       (λ m. rw m
       (cases (ltb 0 (count t (waiters_from met (queues p) (suc i) n)))
       (λ e. let W = waiter_waits (suc i) n (ltb-true 0 _ e) in
-      let z = line-absent S t (home of_events i) (λ z. omega (arith, W.from, line_home S t (home of_events W.event) W.there)) in
+      let z = line_absent S t (home of_events i) (λ z. omega (arith, W.from, line_home S t (home of_events W.event) W.there)) in
       omega arith)
       (λ e. omega (arith, ltb-false))))
       (λ m. rw m (omega arith)))
@@ -117,39 +117,39 @@ module _ (events : List Event) (bits : ℕ) where
 
   module _ {p : Threads} (S : Standing p) (B : Bytes p) where
     -- the waiters of one event are each named once, and wait
-    event-called : (i : ℕ) → Called p (at_home_in p (home of_events i))
-    event-called i = line_called S B (home of_events i) (omega arith)
+    event_called : (i : ℕ) → Called p (at_home_in p (home of_events i))
+    event_called i = line_called S B (home of_events i) (omega arith)
 
-    waiters-called : (i n : ℕ) → Called p (waiters_from met (queues p) i n)
-    waiters-called i n t c =
+    waiters_called : (i n : ℕ) → Called p (waiters_from met (queues p) i n)
+    waiters_called i n t c =
         let W = waiter_waits met S t i n c in
         (omega (arith, waiter_once met S t i n), line_stopped S t (B t) (omega arith) W.there)
 
     -- once one event is worked out all stand in place, and the priorities and the later events' queues are as they were
-    line-stands : (i : ℕ) → Standing (woken_in (home of_events i) p)
+    line_stands : (i : ℕ) → Standing (woken_in (home of_events i) p)
     unfolding woken_in wake_in
-    line-stands i = (each_woken as_met (at_home_in p (home of_events i)) S (event-called i)).standing
+    line_stands i = (each_woken as_met (at_home_in p (home of_events i)) S (event_called i)).standing
 
-    line-bytes : (i : ℕ) → Bytes (woken_in (home of_events i) p)
+    line_bytes : (i : ℕ) → Bytes (woken_in (home of_events i) p)
     unfolding woken_in wake_in
-    line-bytes i t =
-        let A = each_woken as_met (at_home_in p (home of_events i)) S (event-called i) in
+    line_bytes i t =
+        let A = each_woken as_met (at_home_in p (home of_events i)) S (event_called i) in
         cases (ltb 0 (count t (at_home_in p (home of_events i))))
         (λ e. rw (A.woken t (ltb-true 0 _ e)) (B t))
         (λ e. rw (A.others t (omega (arith, ltb-false))) (B t))
 
-    line-later : (i j : ℕ) → i < j → at_home_in (woken_in (home of_events i) p) (home of_events j) ≡ at_home_in p (home of_events j)
+    line_later : (i j : ℕ) → i < j → at_home_in (woken_in (home of_events i) p) (home of_events j) ≡ at_home_in p (home of_events j)
     unfolding woken_in wake_in
-    line-later i j b =
-        let A = each_woken as_met (at_home_in p (home of_events i)) S (event-called i) in
+    line_later i j b =
+        let A = each_woken as_met (at_home_in p (home of_events i)) S (event_called i) in
         A.queues (home of_events j) (omega arith)
         ∙ keep_all (at_home_in p (home of_events j))
-        (λ t c. rw (line-absent S t (home of_events i) (λ z. omega (arith, line_home S t (home of_events j) c))))
+        (λ t c. rw (line_absent S t (home of_events i) (λ z. omega (arith, line_home S t (home of_events j) c))))
 
-    waiters-later : (i j n : ℕ) → i < j → waiters_from met (queues (woken_in (home of_events i) p)) j n ≡ waiters_from met (queues p) j n
+    waiters_later : (i j n : ℕ) → i < j → waiters_from met (queues (woken_in (home of_events i) p)) j n ≡ waiters_from met (queues p) j n
     unfolding waiters_from
-    waiters-later i j zero b = refl
-    waiters-later i j (suc n) b = rw (line-later i j b, waiters-later i (suc j) n (omega arith))
+    waiters_later i j zero b = refl
+    waiters_later i j (suc n) b = rw (line_later i j b, waiters_later i (suc j) n (omega arith))
 
   -- so the events wake their waiters, one after the other
   outs_wake : (i n : ℕ) {p : Threads} → Standing p → Bytes p
@@ -159,8 +159,8 @@ module _ (events : List Event) (bits : ℕ) where
   outs_wake i (suc n) {p} S B =
       cases (met i)
       (λ m. rw m
-      (outs_wake (suc i) n (line-stands S B i) (line-bytes S B i)
-      ∙ rw (waiters-later S B i (suc i) n (omega arith), each_append)))
+      (outs_wake (suc i) n (line_stands S B i) (line_bytes S B i)
+      ∙ rw (waiters_later S B i (suc i) n (omega arith), each_append)))
       (λ m. rw m (outs_wake (suc i) n S B))
 
   module _ (k : Kernel) (S : Standing (threads_of k)) (B : Bytes (threads_of k)) where
@@ -172,7 +172,7 @@ module _ (events : List Event) (bits : ℕ) where
 
     all_woken : AllWoken as_met called (threads_of k) (threads_of after)
     unfolding worked_out wake_in
-    all_woken = rw (outs_wake 0 event_count S B) (each_woken as_met called S (waiters-called S B 0 event_count))
+    all_woken = rw (outs_wake 0 event_count S B) (each_woken as_met called S (waiters_called S B 0 event_count))
 
     -- who waits for no TRUE event is not called
     uncalled : (t : ℕ) → ((i : ℕ) → i < event_count → met i ≡ true → count t (event_queue k i) ≡ 0) → count t called ≡ 0
@@ -183,11 +183,11 @@ module _ (events : List Event) (bits : ℕ) where
         (λ e. omega (arith, ltb-false))
 
     -- a queue that is no TRUE event's is as it was
-    queue-stays : (h : ℕ) → 256 ≤ h → ((i : ℕ) → i < event_count → met i ≡ true → h ≡ home of_events i → ⊥) → at_home after h ≡ at_home k h
-    queue-stays h b ne =
+    queue_stays : (h : ℕ) → 256 ≤ h → ((i : ℕ) → i < event_count → met i ≡ true → h ≡ home of_events i → ⊥) → at_home after h ≡ at_home k h
+    queue_stays h b ne =
         all_woken.queues h b
         ∙ keep_all (at_home k h)
-        (λ t c. rw (uncalled t (λ i s m. line-absent S t (home of_events i) (λ z. ne i s m (sym (line_home S t h c) ∙ z)))))
+        (λ t c. rw (uncalled t (λ i s m. line_absent S t (home of_events i) (λ z. ne i s m (sym (line_home S t h c) ∙ z)))))
 
     works_out : WorkedOut k after
     unfolding worked_out
@@ -196,9 +196,9 @@ module _ (events : List Event) (bits : ℕ) where
           all_woken.queues (home of_events i) (omega arith)
           ∙ keep_none (event_queue k i)
           (λ t c. rw (lt-ltb 0 (count t called) (waits_waiter met S t 0 event_count i (omega arith) (omega arith) m c)));
-      events = λ i b m. queue-stays (home of_events i) (omega arith) (λ j s n z. let e : i ≡ j = omega arith in false≢true (sym m ∙ rw e n));
-      semaphores = λ i b. queue-stays (256 + i) (omega arith) (λ j s n z. omega arith);
-      flags = λ i b. queue-stays (768 + i) (omega arith) (λ j s n z. omega arith);
+      events = λ i b m. queue_stays (home of_events i) (omega arith) (λ j s n z. let e : i ≡ j = omega arith in false≢true (sym m ∙ rw e n));
+      semaphores = λ i b. queue_stays (256 + i) (omega arith) (λ j s n z. omega arith);
+      flags = λ i b. queue_stays (768 + i) (omega arith) (λ j s n z. omega arith);
       lists = all_woken.lists;
       time = all_woken.time;
       woken = λ t i b m c. all_woken.woken t (waits_waiter met S t 0 event_count i (omega arith) (omega arith) m c);

@@ -16,13 +16,13 @@ use Rattle.spec_kernel.specs.Records.{thread, flag}
 use Rattle.spec_kernel.specs.Conditions.{of_flags}
 use Rattle.spec_kernel.specs.Places.{home, at_home, flag_queue}
 use Rattle.spec_kernel.specs.Free.{free_flag}
-use Rattle.spec_kernel.proofs.LowestClear.{clear-is-clear, clear-is-lowest}
+use Rattle.spec_kernel.proofs.LowestClear.{clear_is_clear, clear_is_lowest}
 use Rattle.spec_moves.specs.Standing.{threads_of, Standing}
 use Rattle.spec_calls.specs.declared.call.Call.{Call}
 use Rattle.spec_moves.specs.States.{with_flags}
 use Rattle.spec_threads.specs.Threads.{woken_in, wake_in}
 use Rattle.spec_threads.proofs.LawsOfLists.{keep_none}
-use Rattle.spec_threads.proofs.LawsOfHomes.{Runnable, line_home, line-absent}
+use Rattle.spec_threads.proofs.LawsOfHomes.{Runnable, line_home, line_absent}
 use Rattle.spec_threads.proofs.LawsOfWaking.{AllWoken, each_woken, Bytes, line_called}
 use Rattle.spec_threads.proofs.LawsOfBlocking.{block_blocks}
 use Rattle.spec_regions.specs.Regions.{pop_critical}
@@ -48,11 +48,11 @@ module _ (k : Kernel) (c : Call) where
   pub create_flag_creates : (free_flag k ≡ 255 → ⊥) → CreatedFlag (free_flag k) k (create_flag k c)
   unfolding create_flag
   create_flag_creates some =
-      let (inside, clear) = clear-is-clear k.flags flag_count some in
+      let (inside, clear) = clear_is_clear k.flags flag_count some in
       record {
         inside = inside;
         free = rw (clear, and-false);
-        lowest = λ j b. rw (lt-ltb j flag_count (omega (arith, inside)), clear-is-lowest k.flags flag_count some j b);
+        lowest = λ j b. rw (lt-ltb j flag_count (omega (arith, inside)), clear_is_lowest k.flags flag_count some j b);
         made = record {
           made = rw (lt-ltb (free_flag k) flag_count inside, bit_same k.flags (free_flag k) (omega (arith, inside)));
           only =
@@ -71,9 +71,9 @@ module _ (k : Kernel) (c : Call) where
 
   module _ (S : Standing (threads_of k)) where
     -- ---- kind 33
-    pub pend-flag-pends : k.unscheduled ≡ 0 → k.critical ≡ 1 → Runnable (thread k k.runner) → PendedFlag c.a c.c k (pend_flag k c)
+    pub pend_flag_pends : k.unscheduled ≡ 0 → k.critical ≡ 1 → Runnable (thread k k.runner) → PendedFlag c.a c.c k (pend_flag k c)
     unfolding pend_flag pop_critical
-    pend-flag-pends u e R = record {
+    pend_flag_pends u e R = record {
       out = pop_critical k c;
       ends = ended k.unscheduled (k.critical - 1) u (omega arith) (pop_critical_lem k c);
       blocks = block_blocks (pop_critical k c) S R (ForFlag c.a) c.c refl (omega arith);
@@ -92,12 +92,12 @@ module _ (k : Kernel) (c : Call) where
       unfolding post_flag woken_in wake_in
       all_woken = each_woken as_met (flag_queue k c.a) S (line_called S B (home of_flags c.a) (omega arith))
 
-      pub post-flag-posts : PostedFlag c.a k (post_flag k c)
+      pub post_flag_posts : PostedFlag c.a k (post_flag k c)
       unfolding post_flag
-      post-flag-posts = record {
+      post_flag_posts = record {
         nobody = all_woken.queues (home of_flags c.a) (omega arith) ∙ keep_none (flag_queue k c.a) (λ t m. rw (lt-ltb 0 _ m));
         queues = λ h b ne. all_woken.queues h b
-            ∙ keep_all (at_home k h) (λ t m. rw (line-absent S t (home of_flags c.a) (λ z. ne (sym (line_home S t h m) ∙ z))));
+            ∙ keep_all (at_home k h) (λ t m. rw (line_absent S t (home of_flags c.a) (λ z. ne (sym (line_home S t h m) ∙ z))));
         lists = all_woken.lists;
         time = all_woken.time;
         woken = all_woken.woken;

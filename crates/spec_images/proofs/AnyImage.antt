@@ -13,8 +13,8 @@ use Rattle.spec_notes.specs.Notes.{section_count, threads_in, semaphores_in, eve
 use Rattle.spec_notes.specs.Back.{threads_back, posts_back}
 use Rattle.spec_notes.specs.Within.{Within, AreBytes}
 use Rattle.spec_notes.proofs.Limits.{Limits, limits_within}
-use Rattle.spec_notes.proofs.AnyNote.{threads-any, threads-sized, semaphores-any, semaphores-sized}
-use Rattle.spec_notes.proofs.AnyNote.{events_any, events_sized_lem, messages-any, messages-sized, back_full}
+use Rattle.spec_notes.proofs.AnyNote.{threads_any, threads_sized, semaphores_any, semaphores_sized_lem}
+use Rattle.spec_notes.proofs.AnyNote.{events_any, events_sized_lem, messages_any, messages_sized, back_full}
 use Rattle.spec_notes.proofs.Undoing.{SmallSections, sections_bytes}
 use Rattle.spec_answers.specs.Runs.{Undamaged}
 use Rattle.spec_answers.specs.Promises.{FreshIsUndamaged}
@@ -33,22 +33,22 @@ module _ (x : List (List ℕ)) (S : SmallSections x) where
       let W = fresh_within in
       record {
         threads =
-            threads-sized no_call no_threads.records (λ t. (W.ticks t, W.priority t)) (threads_in x)
+            threads_sized no_call no_threads.records (λ t. (W.ticks t, W.priority t)) (threads_in x)
             ∙ length-replicate thread_count no_thread;
         semaphores =
-            semaphores-sized no_call no_semaphores (λ i. (W.maximum i, W.left i, W.period i)) (semaphores_in x)
+            semaphores_sized_lem no_call no_semaphores (λ i. (W.maximum i, W.left i, W.period i)) (semaphores_in x)
             ∙ length-replicate semaphore_count no_semaphore;
         events =
             events_sized_lem fresh_events (λ i. (W.mask i, W.values i)) (drop 4 (events_in x)) ∙ length-replicate event_count fresh_event;
         messages =
-            messages-sized no_call 255 no_posts.records (λ m. (W.kind m, W.size m, W.address m, W.channel m)) (messages_in x)
+            messages_sized no_call 255 no_posts.records (λ m. (W.kind m, W.size m, W.address m, W.channel m)) (messages_in x)
             ∙ length-replicate message_count no_message;
         places = back_full _ _ no_threads.places;
         time = back_full _ _ no_threads.time;
         posted = back_full _ _ no_posts.posted;
-        priorities = λ i. (threads-any no_call no_threads.records (λ t. (W.ticks t, W.priority t)) (threads_in x) (S _) i).1;
+        priorities = λ i. (threads_any no_call no_threads.records (λ t. (W.ticks t, W.priority t)) (threads_in x) (S _) i).1;
         channels = λ i.
-            (messages-any no_call 255 no_posts.records (λ m. (W.kind m, W.size m, W.address m, W.channel m)) (messages_in x) (S _) i).3;
+            (messages_any no_call 255 no_posts.records (λ m. (W.kind m, W.size m, W.address m, W.channel m)) (messages_in x) (S _) i).3;
       }
 
   told_limits : Limits (state_from x)
@@ -56,12 +56,12 @@ module _ (x : List (List ℕ)) (S : SmallSections x) where
   told_limits =
       let W = fresh_within in
       record {
-        threads = λ i. (threads-any no_call no_threads.records (λ t. (W.ticks t, W.priority t)) (threads_in x) (S _) i).0;
-        semaphores = semaphores-any no_call no_semaphores (λ i. (W.maximum i, W.left i, W.period i)) (semaphores_in x) (S _);
+        threads = λ i. (threads_any no_call no_threads.records (λ t. (W.ticks t, W.priority t)) (threads_in x) (S _) i).0;
+        semaphores = semaphores_any no_call no_semaphores (λ i. (W.maximum i, W.left i, W.period i)) (semaphores_in x) (S _);
         events = events_any fresh_events (λ i. (W.mask i, W.values i)) (drop 4 (events_in x)) (drop_bytes 4 (events_in x) (S _));
         messages = λ i.
             let (a, b, d, _) =
-            messages-any no_call 255 no_posts.records (λ m. (W.kind m, W.size m, W.address m, W.channel m)) (messages_in x) (S _) i in
+            messages_any no_call 255 no_posts.records (λ m. (W.kind m, W.size m, W.address m, W.channel m)) (messages_in x) (S _) i in
             (a, b, d);
         bits = un_small 4 (events_in x) (S _);
         flags = un_small 2 (flags_in x) (S _);

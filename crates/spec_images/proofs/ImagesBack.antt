@@ -10,10 +10,10 @@ use Rattle.spec_kernel.specs.Sizes.{event_count}
 use Rattle.spec_notes.specs.Sections.{threads_section, semaphores_section, event_entries, events_section, messages_section}
 use Rattle.spec_notes.specs.Back.{threads_back, events_before, posts_back}
 use Rattle.spec_notes.proofs.FramesRead.{sections_back}
-use Rattle.spec_notes.proofs.ThreadsBack.{threads-back, places-back, time-back}
-use Rattle.spec_notes.proofs.SemaphoresBack.{semaphores-back}
-use Rattle.spec_notes.proofs.EventsBack.{events-back}
-use Rattle.spec_notes.proofs.MessagesBack.{messages-back, posted-back}
+use Rattle.spec_notes.proofs.ThreadsBack.{threads_back_lem, places-back, time-back}
+use Rattle.spec_notes.proofs.SemaphoresBack.{semaphores_back}
+use Rattle.spec_notes.proofs.EventsBack.{events_back}
+use Rattle.spec_notes.proofs.MessagesBack.{messages_back, posted_back}
 use Rattle.spec_answers.specs.Runs.{Undamaged}
 use Rattle.spec_images.specs.Images.{no_call, fresh_events, scheduler_stored, threads_stored, semaphores_stored, events_stored}
 use Rattle.spec_images.specs.Images.{flags_stored, messages_stored, stored_sections, image_of, state_from, state_in}
@@ -39,18 +39,18 @@ module _ (k : Kernel) (K : Undamaged k) where
       let F = alone k K in
       let entries = event_entries k.events fresh_events 0 event_count in
       let events : events_before fresh_events (drop 4 (events_stored k)) ≡ k.events =
-      ap (events_before fresh_events) (drop_le 4 k.bits entries ∙ sym entries_alone) ∙ events-back k no_call (bare k) W Z Z' in
+      ap (events_before fresh_events) (drop_le 4 k.bits entries ∙ sym entries_alone) ∙ events_back k no_call (bare k) W Z Z' in
       let bits = un_le 4 k.bits entries W.bits in
       let uptime = un_le 4 k.uptime (k.unscheduled ∷ k.critical ∷ k.runner ∷ []) W.uptime in
       let flags = un_le 2 k.flags [] W.flags in
       λ i. record {
-        threads = threads-back k no_call (bare k) Z R W Z' R' i;
-        semaphores = semaphores-back k no_call (bare k) W Z Z' i;
+        threads = threads_back_lem k no_call (bare k) Z R W Z' R' i;
+        semaphores = semaphores_back k no_call (bare k) W Z Z' i;
         events = events i;
-        messages = messages-back k no_call (bare k) Z W Z' i;
+        messages = messages_back k no_call (bare k) Z W Z' i;
         places = places-back k no_call (bare k) Z R W Z' R' F i;
         time = time-back k no_call (bare k) Z R W Z' R' F i;
-        posted = posted-back k no_call (bare k) Z W Z' R R' F i;
+        posted = posted_back k no_call (bare k) Z W Z' R R' F i;
         bits = bits i;
         uptime = uptime i;
         unscheduled = k.unscheduled;

@@ -7,7 +7,7 @@ use Rattle.base_bytes.proofs.Numbers.{length_le}
 use Rattle.spec_kernel.specs.declared.records.Kernel.{Kernel}
 use Rattle.spec_kernel.specs.Sizes.{thread_count, semaphore_count, event_count, message_count}
 use Rattle.spec_moves.specs.Standing.{threads_of, posts_of}
-use Rattle.spec_notes.proofs.EntriesShort.{threads-run, semaphores-run, events_run, messages-run}
+use Rattle.spec_notes.proofs.EntriesShort.{threads_run, semaphores_run, events_run, messages_run}
 use Rattle.spec_notes.proofs.FramesRead.{Short, none, more}
 use Rattle.spec_images.specs.Images.{no_call, no_threads, no_semaphores, fresh_events, no_posts, scheduler_stored, threads_stored}
 use Rattle.spec_images.specs.Images.{semaphores_stored, events_stored, flags_stored, messages_stored, stored_sections, image_of}
@@ -25,11 +25,11 @@ module _ (k : Kernel) where
 
   pub threads_below : length (threads_stored k) ≤ 15 * thread_count
   unfolding threads_stored
-  threads_below = threads-run no_call (threads_of k) no_threads.records k.runner 0 thread_count
+  threads_below = threads_run no_call (threads_of k) no_threads.records k.runner 0 thread_count
 
   pub semaphores_below : length (semaphores_stored k) ≤ 15 * semaphore_count
   unfolding semaphores_stored
-  semaphores_below = semaphores-run no_call k.semaphores no_semaphores 0 semaphore_count
+  semaphores_below = semaphores_run no_call k.semaphores no_semaphores 0 semaphore_count
 
   pub events_below : length (events_stored k) ≤ 4 + 11 * event_count
   unfolding events_stored
@@ -37,7 +37,7 @@ module _ (k : Kernel) where
 
   pub messages_below : length (messages_stored k) ≤ 17 * message_count
   unfolding messages_stored
-  messages_below = messages-run no_call 255 (posts_of k) no_posts.records 0 message_count
+  messages_below = messages_run no_call 255 (posts_of k) no_posts.records 0 message_count
 
   pub sections_short : Short (stored_sections k)
   sections_short =

@@ -114,22 +114,22 @@ module _ (k : Kernel) where
     abbrev touched : ℕ → Bool
     touched = touched_thread k no_call bare
 
-    pub thread-live : (t : ℕ) → touched t ≡ (thread k t).live
+    pub thread_live : (t : ℕ) → touched t ≡ (thread k t).live
     unfolding touched_thread DeadThreads
-    thread-live t = rw (none_there thread_count t no_thread) (thread_told t k.runner (thread k t) (K.rules.dead_threads t))
+    thread_live t = rw (none_there thread_count t no_thread) (thread_told t k.runner (thread k t) (K.rules.dead_threads t))
 
-    pub message-live : (m : ℕ) → touched_message k no_call bare m ≡ (message k m).live
+    pub message_live : (m : ℕ) → touched_message k no_call bare m ≡ (message k m).live
     unfolding touched_message DeadMessages
-    message-live m = rw (none_there message_count m no_message) (message_told (message k m) (K.rules.dead_messages m))
+    message_live m = rw (none_there message_count m no_message) (message_told (message k m) (K.rules.dead_messages m))
 
     -- the rules say of who isn't live what it is
-    dead-thread : (t : ℕ) → (thread k t).live ≡ false → thread k t ≡ no_thread
+    dead_thread : (t : ℕ) → (thread k t).live ≡ false → thread k t ≡ no_thread
     unfolding DeadThreads
-    dead-thread t = K.rules.dead_threads t
+    dead_thread t = K.rules.dead_threads t
 
-    dead-message : (m : ℕ) → (message k m).live ≡ false → message k m ≡ no_message
+    dead_message : (m : ℕ) → (message k m).live ≡ false → message k m ≡ no_message
     unfolding DeadMessages
-    dead-message m = K.rules.dead_messages m
+    dead_message m = K.rules.dead_messages m
 
     -- what an image leaves to be told otherwise: nothing stands in a table, and the rest is the same
     pub alone : LeftAlone k no_call bare
@@ -145,13 +145,13 @@ module _ (k : Kernel) where
           message_count = Z.messages ∙ sym Z'.messages;
           places =
               nobody_left touched _ (items k.places) S.placed
-              (λ t h. thread-live t ∙ passes_live (λ r. r.live) has_home (thread k t) no_thread (dead-thread t) refl h);
+              (λ t h. thread_live t ∙ passes_live (λ r. r.live) has_home (thread k t) no_thread (dead_thread t) refl h);
           time =
               nobody_left touched _ (items k.time) S.timed
-              (λ t h. thread-live t ∙ passes_live (λ r. r.live) (λ r. ltb 0 r.ticks) (thread k t) no_thread (dead-thread t) refl h);
+              (λ t h. thread_live t ∙ passes_live (λ r. r.live) (λ r. ltb 0 r.ticks) (thread k t) no_thread (dead_thread t) refl h);
           posted =
               nobody_left (touched_message k no_call bare) _ (items k.posted) (filed k Z K.rules).placed
-              (λ m h. message-live m ∙ passes_live (λ r. r.live) is_queued (message k m) no_message (dead-message m) refl h);
+              (λ m h. message_live m ∙ passes_live (λ r. r.live) is_queued (message k m) no_message (dead_message m) refl h);
           bits = inl refl;
           flags = inl refl;
           uptime = refl;

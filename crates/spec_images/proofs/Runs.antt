@@ -16,7 +16,7 @@ use Rattle.spec_answers.specs.Runs.{Undamaged, IsRecord, Run, Follows, Step, cal
 use Rattle.spec_answers.proofs.WithLogs.{answers}
 use Rattle.spec_answers.proofs.Undos as Undos
 use Rattle.spec_answers.proofs.LeadsBack.{begun}
-use Rattle.spec_answers.proofs.Following.{call_follows, any-undo-follows, run-kept}
+use Rattle.spec_answers.proofs.Following.{call_follows, any_undo_follows, run_kept}
 use Rattle.spec_images.specs.Images.{longest_image}
 use Rattle.spec_images.specs.OnImages.{fits, keeping, keeping_in, called_on, lent_called, log_called_on, undone_on, lent_undone}
 use Rattle.spec_images.specs.Promises.{Holds}
@@ -100,11 +100,11 @@ module _ (start : Run) (K : Undamaged start.kernel) (z : start.used ≡ 0) where
   all_alike [] p k F H h b = record { holds = H; log = refl; used = refl }
   all_alike (call bytes ∷ steps) p k F H h (b, c) =
       let G = call_follows start [] bytes b F in
-      let (x, y, w) = call_next p k H h bytes b (run-kept start [] K G) in
+      let (x, y, w) = call_next p k H h bytes b (run_kept start [] K G) in
       rw y at (all_alike steps (after_on p (call bytes)) _ (rw (sym y) at G) x (omega arith) c)
   all_alike (undo ∷ steps) p k F H h c =
-      let G = any-undo-follows start [] K z F in
-      let (x, y, w) = undo_next p k H h (run-kept start [] K G) in
+      let G = any_undo_follows start [] K z F in
+      let (x, y, w) = undo_next p k H h (run_kept start [] K G) in
       rw y at (all_alike steps (after_on p undo) _ (rw (sym y) at G) x (omega arith) c)
 
 pub runs_alike : RunsAlike

@@ -24,7 +24,7 @@ use Rattle.spec_images.specs.OnImages.{written, fits, stored_in, lent_then}
 use Rattle.spec_images.specs.Promises.{BrokenIsNotStored, NoRoomIsRefused, RefusedWritesNothing, ImageIsWritten, StoredAway}
 use Rattle.spec_images.specs.Promises.{LiveInOrder, OneWriting}
 use Rattle.spec_images.proofs.Front.{in_front, fits_in, fits_not, front_length}
-use Rattle.spec_images.proofs.Nothing.{none_there, semaphore_told, thread-live, message-live}
+use Rattle.spec_images.proofs.Nothing.{none_there, semaphore_told, thread_live, message_live}
 
 module _ (k : Kernel) (lent : List ℕ) where
   abbrev image : List ℕ
@@ -81,9 +81,9 @@ semaphore_live k R i = rw (none_there semaphore_count i no_semaphore) (semaphore
 pub live_in_order : LiveInOrder
 unfolding LiveInOrder threads_stored semaphores_stored messages_stored touched_thread touched_message
 live_in_order k K = (
-  ap (λ (f : ℕ → Bool). entries_from f (thread_entry no_call (threads_of k) no_threads.records) 0 thread_count) (λ i t. thread-live k K t i),
+  ap (λ (f : ℕ → Bool). entries_from f (thread_entry no_call (threads_of k) no_threads.records) 0 thread_count) (λ i t. thread_live k K t i),
   ap (λ (f : ℕ → Bool). entries_from f (semaphore_entry no_call k.semaphores no_semaphores) 0 semaphore_count)
       (λ i t. semaphore_live k K.rules t i),
   ap (λ (f : ℕ → Bool). entries_from f (message_entry no_call 255 (posts_of k) no_posts.records) 0 message_count)
-      (λ i t. message-live k K t i),
+      (λ i t. message_live k K t i),
 )

@@ -36,20 +36,20 @@ module _ (word : ℕ) where
 
     module _ (s : lowest_clear word 0 n ≡ 255 → ⊥) where
       -- the bit is one of the first n, and clear
-      pub clear-is-clear : (lowest_clear word 0 n < n) × (bit_at word (lowest_clear word 0 n) ≡ false)
-      clear-is-clear = let (a, b) = found 0 n s in (omega arith, b)
+      pub clear_is_clear : (lowest_clear word 0 n < n) × (bit_at word (lowest_clear word 0 n) ≡ false)
+      clear_is_clear = let (a, b) = found 0 n s in (omega arith, b)
 
       -- and the lowest: every bit before it is set
-      pub clear-is-lowest : (j : ℕ) → j < lowest_clear word 0 n → bit_at word j ≡ true
-      clear-is-lowest j h = before j (omega (arith, clear-is-clear.0)) h
+      pub clear_is_lowest : (j : ℕ) → j < lowest_clear word 0 n → bit_at word j ≡ true
+      clear_is_lowest j h = before j (omega (arith, clear_is_clear.0)) h
 
     -- 255 says that every one is set
-    pub none-clear : n ≤ 255 → lowest_clear word 0 n ≡ 255 → (j : ℕ) → j < n → bit_at word j ≡ true
-    none-clear b s j h = before j h (omega arith)
+    pub none_clear : n ≤ 255 → lowest_clear word 0 n ≡ 255 → (j : ℕ) → j < n → bit_at word j ≡ true
+    none_clear b s j h = before j h (omega arith)
 
     -- a word of n bits stays one with that bit set
-    pub with-lowest : word < 2 ^ n → with_bit word (lowest_clear word 0 n) < 2 ^ n
-    with-lowest b =
+    pub with_lowest : word < 2 ^ n → with_bit word (lowest_clear word 0 n) < 2 ^ n
+    with_lowest b =
         cases (eqb (lowest_clear word 0 n) 255)
         (λ e. let z = eqb-true (lowest_clear word 0 n) 255 e in rw (with_high word (lowest_clear word 0 n) (omega arith)) b)
-        (λ e. with_below word (lowest_clear word 0 n) (clear-is-clear (eqb-false (lowest_clear word 0 n) 255 e)).0 b)
+        (λ e. with_below word (lowest_clear word 0 n) (clear_is_clear (eqb-false (lowest_clear word 0 n) 255 e)).0 b)

@@ -42,12 +42,12 @@ module _ {A : Type 0} (live : A → Bool) (d : A) where
 
     module _ (s : lowest_free live 0 l ≡ 255 → ⊥) where
       -- the id is that of a record that isn't live
-      pub free-is-free : (lowest_free live 0 l < length l) × (live (get_or l (lowest_free live 0 l) d) ≡ false)
-      free-is-free = let F = found 0 l s in let e : lowest_free live 0 l ≡ F.place = omega (arith, F.named) in rw e (F.inside, F.free)
+      pub free_is_free : (lowest_free live 0 l < length l) × (live (get_or l (lowest_free live 0 l) d) ≡ false)
+      free_is_free = let F = found 0 l s in let e : lowest_free live 0 l ≡ F.place = omega (arith, F.named) in rw e (F.inside, F.free)
 
       -- and the lowest: every record before it is live
-      pub free-is-lowest : (i : ℕ) → i < lowest_free live 0 l → live (get_or l i d) ≡ true
-      free-is-lowest i h = before i (omega (arith, free-is-free.0)) h
+      pub free_is_lowest : (i : ℕ) → i < lowest_free live 0 l → live (get_or l i d) ≡ true
+      free_is_lowest i h = before i (omega (arith, free_is_free.0)) h
 
     -- 255 says that every record is live
     pub none_free : length l ≤ 255 → lowest_free live 0 l ≡ 255 → (i : ℕ) → i < length l → live (get_or l i d) ≡ true

@@ -98,16 +98,16 @@ module _ (k : Kernel) (t mask : ℕ) where
         (ordered_keep (λ m. stream_of (message k m)) (is_mine k.messages t mask) (items k.posted) o)
 
     -- each is on one of the channels 1 to 15
-    in-range : (m : ℕ) → 0 < count m mine → (1 ≤ number m) × (number m ≤ channel_count)
-    in-range m c = (
+    in_range : (m : ℕ) → 0 < count m mine → (1 ≤ number m) × (number m ≤ channel_count)
+    in_range m c = (
       ltb-true 0 (number m) ((and-eq-true_iff (ltb 0 (number m)) _).0 (mine_means m c).1).0,
       few m (kept (is_mine k.messages t mask) (items k.posted) c).1,
     )
 
     -- Of the masked channels the lowest that has any, and there the oldest [01, calls: Message 3].
-    pub next-lowest : first_for k.messages k.posted t mask ≡ lowest_masked k t mask
+    pub next_lowest : first_for k.messages k.posted t mask ≡ lowest_masked k t mask
     unfolding first_for lowest_masked
-    next-lowest = go mine refl
+    next_lowest = go mine refl
       where
         go : (l : List ℕ) → mine ≡ l → first_of mine ≡ first_of (masked_from k t mask 1 channel_count)
         go [] e = rw (e, masked_none 1 channel_count (λ m c. absurd (omega (arith, rw e at c))))
@@ -115,5 +115,5 @@ module _ (k : Kernel) (t mask : ℕ) where
             let after : Ordered number (x ∷ l) = rw e at by_number in
             let low : (m : ℕ) → 0 < count m mine → number x ≤ number m =
             λ m c. ordered_low number {low = number x} (x ∷ l) (omega arith, after.1) m (rw e at c) in
-            let (a, b) = in-range x (rw e (count_head x l)) in
+            let (a, b) = in_range x (rw e (count_head x l)) in
             rw e (sym (masked_first x l e low 1 channel_count a (omega arith)))

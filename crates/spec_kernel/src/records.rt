@@ -3,7 +3,7 @@ use crate::sizes;
 use base_queue::Queue;
 
 // What a thread does: it is ready, asleep, or waits for a semaphore, an event, a message on the masked channels, or a flag.
-#[derive(Drop)]
+#[derive(Clone, Copy)]
 pub enum Condition {
     Ready,
     Asleep,
@@ -14,7 +14,7 @@ pub enum Condition {
 }
 
 // What a thread waited for when its time was up.
-#[derive(Drop)]
+#[derive(Clone, Copy)]
 pub enum Object {
     Semaphore,
     Event,
@@ -23,14 +23,14 @@ pub enum Object {
 }
 
 // Why a thread was woken last.
-#[derive(Drop)]
+#[derive(Clone, Copy)]
 pub enum Wake {
     None,
     Met,
     TimedOut(Object),
 }
 
-#[derive(Drop)]
+#[derive(Clone, Copy)]
 pub struct Thread {
     pub live: bool,
     pub priority: u8,
@@ -41,7 +41,7 @@ pub struct Thread {
     pub reply: u8,
 }
 
-#[derive(Drop)]
+#[derive(Clone, Copy)]
 pub struct Semaphore {
     pub live: bool,
     pub count: u16,
@@ -51,7 +51,7 @@ pub struct Semaphore {
 }
 
 // `any` is document 01's mode: true for any, false for all.
-#[derive(Drop)]
+#[derive(Clone, Copy)]
 pub struct Event {
     pub any: bool,
     pub mask: u32,
@@ -60,7 +60,7 @@ pub struct Event {
 
 // `kind` is document 01's type. `channel` is the place and no part of the record: 0 where the owner holds the message. It stands with
 // the other single bytes, so that a message takes sixteen.
-#[derive(Drop)]
+#[derive(Clone, Copy)]
 pub struct Message {
     pub live: bool,
     pub owner: u8,
@@ -72,7 +72,7 @@ pub struct Message {
 }
 
 // `flags` has a bit for each flag that is live: that is all of a flag's record.
-#[derive(Drop)]
+#[derive(Clone, Copy)]
 pub struct Kernel {
     pub threads: [Thread; sizes::THREADS],
     pub semaphores: [Semaphore; sizes::SEMAPHORES],

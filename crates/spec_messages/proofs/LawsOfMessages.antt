@@ -23,7 +23,7 @@ use Rattle.spec_kernel.specs.Free.{free_message}
 use Rattle.spec_kernel.specs.Conditions.{ready_for, masks, awaits}
 use Rattle.spec_kernel.specs.Places.{is_queued, stream_of, on_channel, channel}
 use Rattle.spec_moves.specs.Standing.{threads_of, posts_of, Standing, Filed}
-use Rattle.spec_moves.proofs.Posts.{repost_same, repost_other, repost-joins-channel, repost-leaves-channel}
+use Rattle.spec_moves.proofs.Posts.{repost_same, repost_other, repost_joins_channel, repost_leaves_channel}
 use Rattle.spec_kernel.specs.Channels.{is_for, first_for, next_message}
 use Rattle.spec_calls.specs.declared.call.Call.{Call}
 use Rattle.spec_moves.specs.States.{move_message}
@@ -81,9 +81,9 @@ module _ (k : Kernel) (t mask : ℕ) where
   -- Of the channels asked for, the lowest that has any, and there the one that came first [01, calls: Message 3].
   module _ (F : Filed (posts_of k)) (c m : ℕ) (l : List ℕ) (e : masks mask c ≡ true) (oldest : channel k t c ≡ m ∷ l)
       (lowest : (d : ℕ) → d < c → masks mask d ≡ true → channel k t d ≡ []) where
-    next-oldest : first_for k.messages k.posted t mask ≡ m
+    next_oldest : first_for k.messages k.posted t mask ≡ m
     unfolding first_for stream_of
-    next-oldest = go mine refl
+    next_oldest = go mine refl
       where
         there : 0 < count m (channel k t c)
         there = rw oldest (count_head m l)
@@ -127,7 +127,7 @@ module _ (k : Kernel) (F : Filed (posts_of k)) (m : ℕ) where
   -- who comes to be held is out of every channel
   held_leaves : m < message_count → (r : Message) → r.channel ≡ 0 → (u d : ℕ) → 0 < d
       → channel (move_message m r k) u d ≡ without m (channel k u d)
-  held_leaves id r h u d b = repost-leaves-channel (posts_of k) m r F id u d (elsewhere r u d (λ _ z. omega arith))
+  held_leaves id r h u d b = repost_leaves_channel (posts_of k) m r F id u d (elsewhere r u d (λ _ z. omega arith))
 
 -- nothing but messages changes
 file_only : (m : ℕ) (r : Message) (k : Kernel) → OnlyMessages k (move_message m r k)
@@ -144,12 +144,12 @@ module _ (k : Kernel) (F : Filed (posts_of k)) (call : Call) where
   module _ (c m : ℕ) (l : List ℕ) (e : masks call.b c ≡ true) (oldest : channel k k.runner c ≡ m ∷ l)
       (lowest : (d : ℕ) → d < c → masks call.b d ≡ true → channel k k.runner d ≡ []) where
     -- the value that comes back
-    pend-value : next_message k call.b ≡ m
-    pend-value = next-oldest k k.runner call.b F c m l e oldest lowest
+    pend_value : next_message k call.b ≡ m
+    pend_value = next_oldest k k.runner call.b F c m l e oldest lowest
 
-    pend-takes-oldest : Taken m k.runner c l k (pend_message k call)
+    pend_takes_oldest : Taken m k.runner c l k (pend_message k call)
     unfolding pend_message receive
-    pend-takes-oldest =
+    pend_takes_oldest =
         let t = k.runner in
         let there : 0 < count m (channel k t c) = rw oldest (count_head m l) in
         let (o, h, p) = on_channel_lem k t call.b m c there in
@@ -157,7 +157,7 @@ module _ (k : Kernel) (F : Filed (posts_of k)) (call : Call) where
         let r = handed (message k m).owner (message k m).sender 0 (message k m) in
         let some : 0 < c = ltb-true 0 c ((and-eq-true_iff (ltb 0 c) _).0 e).0 in
         let once = keep_once (λ u. on_channel t c (message k u)) (items k.posted) m (posted_once F m) in
-        rw (pend-value, ne_eqb m 255 (λ z. omega arith))
+        rw (pend_value, ne_eqb m 255 (λ z. omega arith))
         (record {
           rest = held_leaves k F m id r refl t c some ∙ rw oldest (without_first m l (rw oldest at once));
           channels =
@@ -173,7 +173,7 @@ pub pend_message_pends : (k : Kernel) (call : Call) → Filed (posts_of k) → S
     → PendedMessage call.b call.c (next_message k call.b) k (pend_message k call)
 unfolding pend_message
 pend_message_pends k call F S R = record {
-  takes = λ c m l e oldest lowest. (pend-value k F call c m l e oldest lowest, pend-takes-oldest k F call c m l e oldest lowest);
+  takes = λ c m l e oldest lowest. (pend_value k F call c m l e oldest lowest, pend_takes_oldest k F call c m l e oldest lowest);
   blocks = λ none.
       let z = next_none k k.runner call.b none in
       (z, rw z (block_blocks k S R (ForMessage call.b) call.c refl (omega arith)));
@@ -206,9 +206,9 @@ module _ (k : Kernel) (F : Filed (posts_of k)) (call : Call) (live : (message k 
       rw (mod-eq_of_lt thread-byte, mod-eq_of_lt channel-byte, unawaited)
       (record {
         last =
-            repost-joins-channel (posts_of k) m r F id (rw (live, lt-ltb 0 call.c some))
+            repost_joins_channel (posts_of k) m r F id (rw (live, lt-ltb 0 call.c some))
             ∙ rw (held_absent k F m held call.b call.c);
-        channels = λ u d ne. repost-leaves-channel (posts_of k) m r F id u d (elsewhere r u d ne) ∙ held_absent k F m held u d;
+        channels = λ u d ne. repost_leaves_channel (posts_of k) m r F id u d (elsewhere r u d ne) ∙ held_absent k F m held u d;
         itself = repost_same (posts_of k) m r F.count id;
         others = λ n ne. repost_other (posts_of k) m r ne;
         only = file_only m r k;
@@ -219,9 +219,9 @@ module _ (k : Kernel) (F : Filed (posts_of k)) (call : Call) (live : (message k 
     recipient : Stopped (thread k call.b)
     recipient = record { live = there; stopped = rw (there, awaits_stopped (thread k call.b).condition call.c awaited); byte = byte }
 
-    post-hands-over : HandedOver m call.b k (post_message k call)
+    post_hands_over : HandedOver m call.b k (post_message k call)
     unfolding post_message hand_over
-    post-hands-over =
+    post_hands_over =
         let r = handed call.b k.runner 0 (message k m) in
         rw (mod-eq_of_lt thread-byte, mod-eq_of_lt channel-byte, awaited)
         (record {
@@ -238,7 +238,7 @@ module _ (k : Kernel) (F : Filed (posts_of k)) (call : Call) (live : (message k 
   -- handed over where it is awaited, else last in its channel [01, calls: Message 2, 4]
   pub post_message_posts : Standing (threads_of k) → (thread k call.b).live ≡ true → (thread k call.b).priority < 256 → 0 < call.c
       → PostedMessage call.a call.b call.c k (post_message k call)
-  post_message_posts S there byte some = record { handed = post-hands-over S there byte; queued = post_appends some }
+  post_message_posts S there byte some = record { handed = post_hands_over S there byte; queued = post_appends some }
 
 -- ---- create and destroy: a message that is held before and after gets a record, and no channel changes
 module _ (k : Kernel) (F : Filed (posts_of k)) where
@@ -252,14 +252,14 @@ module _ (k : Kernel) (F : Filed (posts_of k)) where
   }
 
   module _ (c : Call) where
-    pub create-message-makes : free_message k < message_count → (message k (free_message k)).live ≡ false
+    pub create_message_makes : free_message k < message_count → (message k (free_message k)).live ≡ false
         → MadeMessage (free_message k)
         (record { live = true; owner = k.runner; sender = k.runner; kind = c.b; size = c.c; address = c.d; channel = 0 }) k
         (create_message k c)
     unfolding create_message
-    create-message-makes b free = make_message (free_message k) _ b (rw free) refl
+    create_message_makes b free = make_message (free_message k) _ b (rw free) refl
 
-    pub destroy-message-clears : c.a < message_count → is_queued (message k c.a) ≡ false
+    pub destroy_message_clears : c.a < message_count → is_queued (message k c.a) ≡ false
         → MadeMessage c.a no_message k (destroy_message k c)
     unfolding destroy_message
-    destroy-message-clears b held = make_message c.a no_message b held refl
+    destroy_message_clears b held = make_message c.a no_message b held refl

@@ -34,19 +34,19 @@ module _ (key : ℕ → ℕ) (rank : ℕ) (q : Queue) (n : ℕ) (s : n ≡ lengt
   seek_starts e = (e, omega (arith, length_items q e), omega arith, omega arith)
 
   module _ (i : ℕ) (w : Seek key rank q.at n i) where
-    pub seek-stops : i < n → rank < key (get_or q.at i 0) → i ≡ place_above key rank (items q)
-    seek-stops h p =
+    pub seek_stops : i < n → rank < key (get_or q.at i 0) → i ≡ place_above key rank (items q)
+    seek_stops h p =
         let z : place_above key rank (drop i (take n q.at)) ≡ 0 = rw (rest_next 0 q.at n i h (omega arith), lt-ltb _ _ p) in
         rw (sized_items q n s) (omega arith)
 
-    pub seek-goes : i < n → key (get_or q.at i 0) ≤ rank → Seek key rank q.at n (i + 1)
-    seek-goes h p =
+    pub seek_goes : i < n → key (get_or q.at i 0) ≤ rank → Seek key rank q.at n (i + 1)
+    seek_goes h p =
         let z : place_above key rank (drop i (take n q.at)) ≡ 1 + place_above key rank (drop (i + 1) (take n q.at)) =
         rw (rest_next 0 q.at n i h (omega arith), le-ltb _ _ p) (omega arith) in
         (w.0, w.1, omega arith, omega arith)
 
-    pub seek-ends : n ≤ i → n ≡ place_above key rank (items q)
-    seek-ends h =
+    pub seek_ends : n ≤ i → n ≡ place_above key rank (items q)
+    seek_ends h =
         let z : place_above key rank (drop i (take n q.at)) ≡ 0 = rw (rest_end q.at n i (omega arith)) in
         rw (sized_items q n s) (omega arith)
 

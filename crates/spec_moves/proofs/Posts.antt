@@ -19,7 +19,7 @@ use Rattle.spec_kernel.specs.Records.{no_message}
 use Rattle.spec_kernel.specs.Places.{is_queued, stream_of, on_channel}
 use Rattle.spec_moves.specs.Moves.{rejoined, post_after, repost}
 use Rattle.spec_moves.specs.Standing.{message_in, Filed}
-use Rattle.spec_moves.proofs.Rejoined.{rejoined_keep, Table, table-moved, table-leaves, table-last}
+use Rattle.spec_moves.proofs.Rejoined.{rejoined_keep, Table, table_moved, table_leaves, table-last}
 
 -- the messages of a stream, oldest first
 abbrev pub stream_in : Posts → ℕ → List ℕ
@@ -86,31 +86,31 @@ module _ (q : Posts) (m : ℕ) (r : Message) (F : Filed q) where
   pub repost_filed : Filed (repost m r q)
   repost_filed =
       either q m r Filed
-      (λ h. let T = table-moved (table q F) m (inside q F h) r in
+      (λ h. let T = table_moved (table q F) m (inside q F h) r in
       record { count = length-set q.records m r ∙ F.count; tidy = T.tidy; placed = T.placed; in_stream = T.ordered })
       F
 
   module _ (h : m < message_count) where
     -- a message that is queued comes last in its stream: the old run without it, then it
-    pub repost-joins : is_queued r ≡ true → stream_in (repost m r q) (stream_of r) ≡ without m (stream_in q (stream_of r)) ++ m ∷ []
-    repost-joins e =
+    pub repost_joins : is_queued r ≡ true → stream_in (repost m r q) (stream_of r) ≡ without m (stream_in q (stream_of r)) ++ m ∷ []
+    repost_joins e =
         rw (moves q m r h)
         (table-last (table q F) m (inside q F h) r (λ a. eqb (stream_of a) (stream_of r)) e (same (stream_of r))
         (λ a z. eqb-true (stream_of a) (stream_of r) z))
 
     -- and so last on its channel
-    pub repost-joins-channel : is_queued r ≡ true
+    pub repost_joins_channel : is_queued r ≡ true
         → channel_in (repost m r q) r.owner r.channel ≡ without m (channel_in q r.owner r.channel) ++ m ∷ []
-    repost-joins-channel e =
+    repost_joins_channel e =
         rw (moves q m r h)
         (table-last (table q F) m (inside q F h) r (on_channel r.owner r.channel) e (rw (same r.owner, same r.channel))
         (λ a z. channel_stream a r z))
 
     -- of every other stream it is gone, and the others keep their order there
-    pub repost-leaves : {s : ℕ} → (s ≡ stream_of r → ⊥) → stream_in (repost m r q) s ≡ without m (stream_in q s)
-    repost-leaves {s} ne =
-        rw (moves q m r h) (table-leaves (table q F) m (inside q F h) r (λ a. eqb (stream_of a) s) (ne_eqb (stream_of r) s (λ z. ne (sym z))))
+    pub repost_leaves : {s : ℕ} → (s ≡ stream_of r → ⊥) → stream_in (repost m r q) s ≡ without m (stream_in q s)
+    repost_leaves {s} ne =
+        rw (moves q m r h) (table_leaves (table q F) m (inside q F h) r (λ a. eqb (stream_of a) s) (ne_eqb (stream_of r) s (λ z. ne (sym z))))
 
     -- and so of every channel that its record is not of
-    pub repost-leaves-channel : (t c : ℕ) → on_channel t c r ≡ false → channel_in (repost m r q) t c ≡ without m (channel_in q t c)
-    repost-leaves-channel t c e = rw (moves q m r h) (table-leaves (table q F) m (inside q F h) r (on_channel t c) e)
+    pub repost_leaves_channel : (t c : ℕ) → on_channel t c r ≡ false → channel_in (repost m r q) t c ≡ without m (channel_in q t c)
+    repost_leaves_channel t c e = rw (moves q m r h) (table_leaves (table q F) m (inside q F h) r (on_channel t c) e)

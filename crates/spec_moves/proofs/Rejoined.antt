@@ -79,29 +79,29 @@ module _ {A : Type 0} {d : A} {belongs : A → Bool} {key : A → ℕ} {records 
     abbrev now : List A
     now = set records x r
 
-    now-few : length now ≤ capacity
-    now-few = rw length-set T.few
+    now_few : length now ≤ capacity
+    now_few = rw length-set T.few
 
     -- that is its record
-    now-same : {B : Type 0} (g : A → B) → said d g now x ≡ g r
-    now-same g = ap g (get_or-set_same records x r d h)
+    now_same : {B : Type 0} (g : A → B) → said d g now x ≡ g r
+    now_same g = ap g (get_or-set_same records x r d h)
 
     -- and the others have theirs
-    now-other : {B : Type 0} (g : A → B) {u : ℕ} → (u ≡ x → ⊥) → said d g now u ≡ said d g records u
-    now-other g {u} ne = ap g (get_or-set_other records x u r d ne)
+    now_other : {B : Type 0} (g : A → B) {u : ℕ} → (u ≡ x → ⊥) → said d g now u ≡ said d g records u
+    now_other g {u} ne = ap g (get_or-set_other records x u r d ne)
 
     -- where it says what the old one said, all say what they said
-    now-alike : {B : Type 0} (g : A → B) → g r ≡ said d g records x → (u : ℕ) → said d g now u ≡ said d g records u
-    now-alike g e u = cases (eqb u x) (λ z. rw (eqb-true u x z) (now-same g ∙ e)) (λ z. now-other g (eqb-false u x z))
+    now_alike : {B : Type 0} (g : A → B) → g r ≡ said d g records x → (u : ℕ) → said d g now u ≡ said d g records u
+    now_alike g e u = cases (eqb u x) (λ z. rw (eqb-true u x z) (now_same g ∙ e)) (λ z. now_other g (eqb-false u x z))
 
     -- then the table may stay as it was
     pub table_stays : belongs r ≡ said d belongs records x → key r ≡ said d key records x → Table d belongs key (set records x r) q
     table_stays b k = record {
       out = T.out;
-      few = now-few;
+      few = now_few;
       tidy = T.tidy;
-      placed = λ u. T.placed u ∙ ap one (sym (now-alike belongs b u));
-      ordered = ordered_keys (items q) (λ u _. now-alike key k u) T.ordered;
+      placed = λ u. T.placed u ∙ ap one (sym (now_alike belongs b u));
+      ordered = ordered_keys (items q) (λ u _. now_alike key k u) T.ordered;
     }
 
     -- who comes after x, and the queue once x has moved
@@ -111,22 +111,22 @@ module _ {A : Type 0} {d : A} {belongs : A → Bool} {key : A → ℕ} {records 
     abbrev next : Queue
     next = rejoined (belongs r) after x q
 
-    next-items : items next ≡ moved (belongs r) after x (items q)
-    next-items = rejoined_items (belongs r) after x q room
+    next_items : items next ≡ moved (belongs r) after x (items q)
+    next_items = rejoined_items (belongs r) after x q room
 
     -- a move keeps the rules of the table
-    pub table-moved : Table d belongs key now next
-    table-moved = record {
+    pub table_moved : Table d belongs key now next
+    table_moved = record {
       out = T.out;
-      few = now-few;
+      few = now_few;
       tidy = rejoined_tidy (belongs r) after x q;
       placed =
-          rw next-items
+          rw next_items
           (moved_placed (belongs r) after x (items q) (said d belongs records) (said d belongs now) T.placed
-          (now-same belongs) (λ u ne. now-other belongs ne));
+          (now_same belongs) (λ u ne. now_other belongs ne));
       ordered =
-          rw next-items
-          (moved_ordered (belongs r) after x (items q) T.ordered (λ u ne. now-other key ne) (λ u ne. rw (now-same key)));
+          rw next_items
+          (moved_ordered (belongs r) after x (items q) T.ordered (λ u ne. now_other key ne) (λ u ne. rw (now_same key)));
     }
 
     -- of a run, those of whose records f holds:
@@ -134,13 +134,13 @@ module _ {A : Type 0} {d : A} {belongs : A → Bool} {key : A → ℕ} {records 
       -- the others are as they were
       others : keep (said d f now) (without x (items q)) ≡ without x (keep (said d f records) (items q))
       others =
-          keep_same (without x (items q)) (λ u c. now-other f (not_without x (items q) c))
+          keep_same (without x (items q)) (λ u c. now_other f (not_without x (items q) c))
           ∙ keep_without (said d f records) x (items q)
 
       -- x is gone where f does not hold of r
-      pub table-leaves : f r ≡ false → keep (said d f now) (items next) ≡ without x (keep (said d f records) (items q))
-      table-leaves e =
-          let z : said d f now x ≡ false = now-same f ∙ e in
+      pub table_leaves : f r ≡ false → keep (said d f now) (items next) ≡ without x (keep (said d f records) (items q))
+      table_leaves e =
+          let z : said d f now x ≡ false = now_same f ∙ e in
           rejoined_keep (belongs r) after x q (said d f now) z ∙ sym (keep_past (said d f now) x (items q) z) ∙ others
 
       module _ (stays : belongs r ≡ true) (e : f r ≡ true) where
@@ -148,9 +148,9 @@ module _ {A : Type 0} {d : A} {belongs : A → Bool} {key : A → ℕ} {records 
         pub table-joins : keep (said d f now) (items next) ≡ behind after x (without x (keep (said d f records) (items q)))
         unfolding moved
         table-joins =
-            rw (next-items, stays, ← others)
+            rw (next_items, stays, ← others)
             (keep_behind (said d key records) (key r) (said d f now) x (without x (items q))
-            (ordered_keep (said d key records) (is_not x) (items q) T.ordered) (λ u _. refl) (now-same f ∙ e))
+            (ordered_keep (said d key records) (is_not x) (items q) T.ordered) (λ u _. refl) (now_same f ∙ e))
 
         -- last, where all of the run have the key of r
         pub table-last : ((a : A) → f a ≡ true → key a ≡ key r)

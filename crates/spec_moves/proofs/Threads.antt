@@ -23,7 +23,7 @@ use Rattle.spec_kernel.specs.Conditions.{is_ready, ready_for}
 use Rattle.spec_kernel.specs.Places.{nowhere, home_for, home_of, has_home, rank_of}
 use Rattle.spec_moves.specs.Moves.{rejoined, thread_in, ranks_after, wakes_after, relocate}
 use Rattle.spec_moves.specs.Standing.{at_home_in, Standing}
-use Rattle.spec_moves.proofs.Rejoined.{rejoined_keep, Table, table_stays, table-moved, table-leaves, table-joins, table-last}
+use Rattle.spec_moves.proofs.Rejoined.{rejoined_keep, Table, table_stays, table_moved, table_leaves, table-joins, table-last}
 
 -- ---- what a record says
 abbrev has_time : Thread → Bool
@@ -105,25 +105,25 @@ module _ (p : Threads) (t : ℕ) (r : Thread) where
 
   module _ (f : ℕ → Bool) (e : f t ≡ false) where
     -- a test that does not hold of the thread does not see it move: not in `places`
-    pub relocate-keep : keep f (items (relocate t r p).places) ≡ keep f (items p.places)
-    relocate-keep =
+    pub relocate_keep : keep f (items (relocate t r p).places) ≡ keep f (items p.places)
+    relocate_keep =
         either (λ n. keep f (items n.places) ≡ keep f (items p.places))
         (λ _. rejoined_keep (has_home r) (ranks_after p.records r) t p.places f e) refl
 
     -- nor in the time queue
-    pub relocate-time-keep : keep f (items (relocate t r p).time) ≡ keep f (items p.time)
-    relocate-time-keep =
+    pub relocate_time_keep : keep f (items (relocate t r p).time) ≡ keep f (items p.time)
+    relocate_time_keep =
         either (λ n. keep f (items n.time) ≡ keep f (items p.time))
         (λ _. cases (eqb (thread_in p t).ticks r.ticks) (λ z. rw z)
         (λ z. rw z (rejoined_keep (has_time r) (wakes_after p.records r) t p.time f e))) refl
 
   -- everybody else's order is as it was, in `places`
   pub relocate_order : without t (items (relocate t r p).places) ≡ without t (items p.places)
-  relocate_order = relocate-keep (is_not t) (rw same)
+  relocate_order = relocate_keep (is_not t) (rw same)
 
   -- and in the time queue
   pub relocate_time_order : without t (items (relocate t r p).time) ≡ without t (items p.time)
-  relocate_time_order = relocate-time-keep (is_not t) (rw same)
+  relocate_time_order = relocate_time_keep (is_not t) (rw same)
 
 -- ---- the two tables of threads
 abbrev PlacesTable : List Thread → Queue → Type 0
@@ -146,11 +146,11 @@ module _ (p : Threads) where
   }
 
   module _ (S : Standing p) where
-    places-table : PlacesTable p.records p.places
-    places-table = record { out = no_home; few = omega (arith, S.count); tidy = S.tidy_places; placed = S.placed; ordered = S.in_rank }
+    places_table : PlacesTable p.records p.places
+    places_table = record { out = no_home; few = omega (arith, S.count); tidy = S.tidy_places; placed = S.placed; ordered = S.in_rank }
 
-    time-table : TimeTable p.records p.time
-    time-table = record { out = refl; few = omega (arith, S.count); tidy = S.tidy_time; placed = S.timed; ordered = S.in_time }
+    time_table : TimeTable p.records p.time
+    time_table = record { out = refl; few = omega (arith, S.count); tidy = S.tidy_time; placed = S.timed; ordered = S.in_time }
 
     inside : {t : ℕ} → t < thread_count → t < length p.records
     inside h = omega (arith, S.count)
@@ -160,34 +160,34 @@ module _ (p : Threads) (t : ℕ) (r : Thread) (S : Standing p) where
   time_moved : t < thread_count → TimeTable (set p.records t r) (new_time p t r)
   time_moved h =
       cases (eqb (thread_in p t).ticks r.ticks)
-      (λ e. let z = eqb-true (thread_in p t).ticks r.ticks e in rw e (table_stays (time-table p S) t (inside p S h) r (rw z) (sym z)))
-      (λ e. rw e (table-moved (time-table p S) t (inside p S h) r))
+      (λ e. let z = eqb-true (thread_in p t).ticks r.ticks e in rw e (table_stays (time_table p S) t (inside p S h) r (rw z) (sym z)))
+      (λ e. rw e (table_moved (time_table p S) t (inside p S h) r))
 
   -- a move keeps the placing rules and the order
   pub relocate_standing : Standing (relocate t r p)
   relocate_standing =
       either p t r Standing
-      (λ h. standing (new_threads p t r) (length-set p.records t r ∙ S.count) (table-moved (places-table p S) t (inside p S h) r)
+      (λ h. standing (new_threads p t r) (length-set p.records t r ∙ S.count) (table_moved (places_table p S) t (inside p S h) r)
       (time_moved h)) S
 
   module _ (h : t < thread_count) where
     -- it joins its list or queue behind its equals
-    pub relocate-joins : has_home r ≡ true
+    pub relocate_joins : has_home r ≡ true
         → at_home_in (relocate t r p) (home_of r) ≡ behind (ranks_after p.records r) t (without t (at_home_in p (home_of r)))
-    relocate-joins e =
-        rw (moves p t r h) (table-joins (places-table p S) t (inside p S h) r (λ a. eqb (home_of a) (home_of r)) e (same (home_of r)))
+    relocate_joins e =
+        rw (moves p t r h) (table-joins (places_table p S) t (inside p S h) r (λ a. eqb (home_of a) (home_of r)) e (same (home_of r)))
 
     -- of a ready thread: last in its priority's list
-    pub relocate-last : home_of r ≡ r.priority → r.priority < 256
+    pub relocate_last : home_of r ≡ r.priority → r.priority < 256
         → at_home_in (relocate t r p) r.priority ≡ without t (at_home_in p r.priority) ++ t ∷ []
-    relocate-last e b =
+    relocate_last e b =
         rw (moves p t r h)
-        (table-last (places-table p S) t (inside p S h) r (λ a. eqb (home_of a) r.priority)
+        (table-last (places_table p S) t (inside p S h) r (λ a. eqb (home_of a) r.priority)
         (rw (ne_eqb (home_of r) nowhere (λ z. omega arith))) (eq-eqb (home_of r) r.priority e)
         (λ a z. list_rank a r e b (eqb-true (home_of a) r.priority z)))
 
     -- of every other list it is gone, and the others keep their order there
-    pub relocate-leaves : {n : ℕ} → (n ≡ home_of r → ⊥) → at_home_in (relocate t r p) n ≡ without t (at_home_in p n)
-    relocate-leaves {n} ne =
+    pub relocate_leaves : {n : ℕ} → (n ≡ home_of r → ⊥) → at_home_in (relocate t r p) n ≡ without t (at_home_in p n)
+    relocate_leaves {n} ne =
         rw (moves p t r h)
-        (table-leaves (places-table p S) t (inside p S h) r (λ a. eqb (home_of a) n) (ne_eqb (home_of r) n (λ z. ne (sym z))))
+        (table_leaves (places_table p S) t (inside p S h) r (λ a. eqb (home_of a) n) (ne_eqb (home_of r) n (λ z. ne (sym z))))

@@ -4,7 +4,7 @@ use spec_kernel::records::{Message, Thread};
 use spec_kernel::sizes;
 
 // The part of the state that threads move in.
-#[derive(Drop)]
+#[derive(Clone, Copy)]
 pub struct Threads {
     pub records: [Thread; sizes::THREADS],
     pub places: Queue,
@@ -12,7 +12,7 @@ pub struct Threads {
 }
 
 // The part of the state that messages move in.
-#[derive(Drop)]
+#[derive(Clone, Copy)]
 pub struct Posts {
     pub records: [Message; sizes::MESSAGES],
     pub posted: Queue,

@@ -58,31 +58,31 @@ module _ (c : Call) where
   thread_younger r (t, p) = (either_below (is c 1 && ltb 0 r.ticks) _ _ _ (more_small r.ticks t) t, p)
 
   module _ (new : List Thread) (F : (t : ℕ) → FineThread (get_or new t no_thread)) where
-    threads-fine : (h : ℕ) (s : List ℕ) (a : Threading) → Bytes s → ((t : ℕ) → FineThread (get_or a.threads t no_thread))
+    threads_fine : (h : ℕ) (s : List ℕ) (a : Threading) → Bytes s → ((t : ℕ) → FineThread (get_or a.threads t no_thread))
         → (t : ℕ) → FineThread (get_or (thread_read c new h s a).threads t no_thread)
     unfolding thread_read row_in
-    threads-fine h s a b =
+    threads_fine h s a b =
         set_all FineThread a.threads (id_of h) _ no_thread
         (thread_read_lem (get_or new (id_of h) no_thread) (F (id_of h)) _ _ _ (drop_bytes (fields_from h) s b))
 
-    threads-count : (n h : ℕ) (s : List ℕ) (a : Threading) → length a.threads ≡ n → length (thread_read c new h s a).threads ≡ n
+    threads_count : (n h : ℕ) (s : List ℕ) (a : Threading) → length a.threads ≡ n → length (thread_read c new h s a).threads ≡ n
     unfolding thread_read
-    threads-count n h s a e = length-set a.threads (id_of h) _ ∙ e
+    threads_count n h s a e = length-set a.threads (id_of h) _ ∙ e
 
-    pub threads-any : (s : List ℕ) → Bytes s → (t : ℕ) → FineThread (get_or (threads_before c new s).threads t no_thread)
+    pub threads_any : (s : List ℕ) → Bytes s → (t : ℕ) → FineThread (get_or (threads_before c new s).threads t no_thread)
     unfolding threads_before
-    threads-any s h =
-        entries_keep (thread_own c new) (thread_read c new) (λ a. (t : ℕ) → FineThread (get_or a.threads t no_thread)) threads-fine
+    threads_any s h =
+        entries_keep (thread_own c new) (thread_read c new) (λ a. (t : ℕ) → FineThread (get_or a.threads t no_thread)) threads_fine
         (length s) s _ h
         (λ t. cases (ltb t (length new))
         (λ e. rw (get_d_map (younger_thread c) new t no_thread (ltb-true t (length new) e)) (thread_younger _ (F t)))
         (λ e. let b : length (map (younger_thread c) new) ≤ t = rw length-map (ltb-false t (length new) e) in
         rw (get_or-eq_default (map (younger_thread c) new) no_thread b) (omega arith)))
 
-    pub threads-sized : (s : List ℕ) → length (threads_before c new s).threads ≡ length new
+    pub threads_sized : (s : List ℕ) → length (threads_before c new s).threads ≡ length new
     unfolding threads_before
-    threads-sized s =
-        entries_hold (thread_own c new) (thread_read c new) (λ a. length a.threads ≡ length new) (threads-count (length new))
+    threads_sized s =
+        entries_hold (thread_own c new) (thread_read c new) (λ a. length a.threads ≡ length new) (threads_count (length new))
         (length s) s _ (length-map new (younger_thread c))
 
 -- ---- semaphores
@@ -104,31 +104,31 @@ module _ (c : Call) where
       (m, either_below (is c 1 && ltb 0 r.period) _ _ _ before t, p)
 
   module _ (new : List Semaphore) (F : (i : ℕ) → SmallSemaphore (get_or new i no_semaphore)) where
-    semaphores-fine : (h : ℕ) (s : List ℕ) (a : List Semaphore) → Bytes s → ((i : ℕ) → SmallSemaphore (get_or a i no_semaphore))
+    semaphores_fine : (h : ℕ) (s : List ℕ) (a : List Semaphore) → Bytes s → ((i : ℕ) → SmallSemaphore (get_or a i no_semaphore))
         → (i : ℕ) → SmallSemaphore (get_or (semaphore_read c new h s a) i no_semaphore)
     unfolding semaphore_read row_in
-    semaphores-fine h s a b =
+    semaphores_fine h s a b =
         set_all SmallSemaphore a (id_of h) _ no_semaphore
         (semaphore_read_lem (get_or new (id_of h) no_semaphore) (F (id_of h)) _ _ (drop_bytes (fields_from h) s b))
 
-    semaphores-count : (n h : ℕ) (s : List ℕ) (a : List Semaphore) → length a ≡ n → length (semaphore_read c new h s a) ≡ n
+    semaphores_count : (n h : ℕ) (s : List ℕ) (a : List Semaphore) → length a ≡ n → length (semaphore_read c new h s a) ≡ n
     unfolding semaphore_read
-    semaphores-count n h s a e = length-set a (id_of h) _ ∙ e
+    semaphores_count n h s a e = length-set a (id_of h) _ ∙ e
 
-    pub semaphores-any : (s : List ℕ) → Bytes s → (i : ℕ) → SmallSemaphore (get_or (semaphores_before c new s) i no_semaphore)
+    pub semaphores_any : (s : List ℕ) → Bytes s → (i : ℕ) → SmallSemaphore (get_or (semaphores_before c new s) i no_semaphore)
     unfolding semaphores_before
-    semaphores-any s h =
-        entries_keep (own_in semaphore_widths) (semaphore_read c new) (λ a. (i : ℕ) → SmallSemaphore (get_or a i no_semaphore)) semaphores-fine
+    semaphores_any s h =
+        entries_keep (own_in semaphore_widths) (semaphore_read c new) (λ a. (i : ℕ) → SmallSemaphore (get_or a i no_semaphore)) semaphores_fine
         (length s) s _ h
         (λ i. cases (ltb i (length new))
         (λ e. rw (get_d_map (younger_semaphore c) new i no_semaphore (ltb-true i (length new) e)) (semaphore_younger _ (F i)))
         (λ e. let b : length (map (younger_semaphore c) new) ≤ i = rw length-map (ltb-false i (length new) e) in
         rw (get_or-eq_default (map (younger_semaphore c) new) no_semaphore b) (omega arith)))
 
-    pub semaphores-sized : (s : List ℕ) → length (semaphores_before c new s) ≡ length new
+    pub semaphores_sized_lem : (s : List ℕ) → length (semaphores_before c new s) ≡ length new
     unfolding semaphores_before
-    semaphores-sized s =
-        entries_hold (own_in semaphore_widths) (semaphore_read c new) (λ a. length a ≡ length new) (semaphores-count (length new))
+    semaphores_sized_lem s =
+        entries_hold (own_in semaphore_widths) (semaphore_read c new) (λ a. length a ≡ length new) (semaphores_count (length new))
         (length s) s _ (length-map new (younger_semaphore c))
 
 -- ---- events
@@ -175,27 +175,27 @@ module _ (c : Call) (runner : ℕ) where
   )
 
   module _ (new : List Message) (F : (m : ℕ) → FineMessage (get_or new m no_message)) where
-    messages-fine : (h : ℕ) (s : List ℕ) (a : Filing) → Bytes s → ((m : ℕ) → FineMessage (get_or a.messages m no_message))
+    messages_fine : (h : ℕ) (s : List ℕ) (a : Filing) → Bytes s → ((m : ℕ) → FineMessage (get_or a.messages m no_message))
         → (m : ℕ) → FineMessage (get_or (message_read c runner new h s a).messages m no_message)
     unfolding message_read row_in
-    messages-fine h s a b =
+    messages_fine h s a b =
         set_all FineMessage a.messages (id_of h) _ no_message
         (message_read_lem (get_or new (id_of h) no_message) (F (id_of h)) _ _ (drop_bytes (fields_from h) s b))
 
-    messages-count : (n h : ℕ) (s : List ℕ) (a : Filing) → length a.messages ≡ n → length (message_read c runner new h s a).messages ≡ n
+    messages_count : (n h : ℕ) (s : List ℕ) (a : Filing) → length a.messages ≡ n → length (message_read c runner new h s a).messages ≡ n
     unfolding message_read
-    messages-count n h s a e = length-set a.messages (id_of h) _ ∙ e
+    messages_count n h s a e = length-set a.messages (id_of h) _ ∙ e
 
-    pub messages-any : (s : List ℕ) → Bytes s → (m : ℕ) → FineMessage (get_or (messages_before c runner new s).messages m no_message)
+    pub messages_any : (s : List ℕ) → Bytes s → (m : ℕ) → FineMessage (get_or (messages_before c runner new s).messages m no_message)
     unfolding messages_before
-    messages-any s h =
+    messages_any s h =
         entries_keep (own_in message_widths) (message_read c runner new) (λ a. (m : ℕ) → FineMessage (get_or a.messages m no_message))
-        messages-fine (length s) s _ h F
+        messages_fine (length s) s _ h F
 
-    pub messages-sized : (s : List ℕ) → length (messages_before c runner new s).messages ≡ length new
+    pub messages_sized : (s : List ℕ) → length (messages_before c runner new s).messages ≡ length new
     unfolding messages_before
-    messages-sized s =
-        entries_hold (own_in message_widths) (message_read c runner new) (λ a. length a.messages ≡ length new) (messages-count (length new))
+    messages_sized s =
+        entries_hold (own_in message_widths) (message_read c runner new) (λ a. length a.messages ≡ length new) (messages_count (length new))
         (length s) s _ refl
 
 -- ---- the tables

@@ -66,9 +66,9 @@ module _ {A : Type 0} (own : ℕ → List ℕ → ℕ) (does : ℕ → List ℕ 
         each_part (suc i) n (cond (touched i) (step i a) a)
         ∙ ap (each touched part (suc i) n) (cases (touched i) (λ e. rw e (same i a)) (λ e. rw e))
 
-    pub read-part : (m n : ℕ) (a : A) → n ≤ 64 → length (entries_from touched entry 0 n) ≤ m
+    pub read_part : (m n : ℕ) (a : A) → n ≤ 64 → length (entries_from touched entry 0 n) ≤ m
         → f (read m (entries_from touched entry 0 n) a) ≡ each touched part 0 n (f a)
-    read-part m n a b l = ap f (read_each m 0 n a (omega arith) l) ∙ each_part 0 n a
+    read_part m n a b l = ap f (read_each m 0 n a (omega arith) l) ∙ each_part 0 n a
 
 -- the first byte is none that no head is
 pub first_other : (touched : ℕ → Bool) (entry : ℕ → List ℕ) {head : ℕ → ℕ} {tail : ℕ → List ℕ} → ((i : ℕ) → entry i ≡ head i ∷ tail i)
@@ -92,36 +92,36 @@ module _ {A : Type 0} (touched : ℕ → Bool) (place : ℕ → ℕ) (what : ℕ
 
   -- whoever is put at place j is v
   module _ (d : A) (j : ℕ) (v : A) (only : (i : ℕ) → touched i ≡ true → place i ≡ j → what i ≡ v) where
-    put-at : (i : ℕ) (l : List A) → j < length l → touched i ≡ true → place i ≡ j → get_or (put i l) j d ≡ v
-    put-at i l h e p = rw (p, get_or-set_same) (only i e p)
+    put_at : (i : ℕ) (l : List A) → j < length l → touched i ≡ true → place i ≡ j → get_or (put i l) j d ≡ v
+    put_at i l h e p = rw (p, get_or-set_same) (only i e p)
 
     -- v stays there
-    pub each-stays : (i n : ℕ) (l : List A) → j < length l → get_or l j d ≡ v → get_or (each touched put i n l) j d ≡ v
+    pub each_stays : (i n : ℕ) (l : List A) → j < length l → get_or l j d ≡ v → get_or (each touched put i n l) j d ≡ v
     unfolding each
-    each-stays i zero l h g = g
-    each-stays i (suc n) l h g =
+    each_stays i zero l h g = g
+    each_stays i (suc n) l h g =
         cases (touched i)
-        (λ e. rw e (each-stays (suc i) n (put i l) (rw length-set h) (cases (eqb (place i) j)
-        (λ p. put-at i l h e (eqb-true (place i) j p))
+        (λ e. rw e (each_stays (suc i) n (put i l) (rw length-set h) (cases (eqb (place i) j)
+        (λ p. put_at i l h e (eqb-true (place i) j p))
         (λ p. get_or-set_other l (place i) j (what i) d (λ q. eqb-false (place i) j p (sym q)) ∙ g))))
-        (λ e. rw e (each-stays (suc i) n l h g))
+        (λ e. rw e (each_stays (suc i) n l h g))
 
     -- u of the ids puts it there
-    each-comes : (u i n : ℕ) (l : List A) → j < length l → i ≤ u → u < i + n → touched u ≡ true → place u ≡ j
+    each_comes : (u i n : ℕ) (l : List A) → j < length l → i ≤ u → u < i + n → touched u ≡ true → place u ≡ j
         → get_or (each touched put i n l) j d ≡ v
     unfolding each
-    each-comes u i zero l h a b t p = absurd (omega arith)
-    each-comes u i (suc n) l h a b t p =
+    each_comes u i zero l h a b t p = absurd (omega arith)
+    each_comes u i (suc n) l h a b t p =
         cases (eqb u i)
-        (λ e. rw (← eqb-true u i e, t) (each-stays (suc u) n (put u l) (rw length-set h) (put-at u l h t p)))
+        (λ e. rw (← eqb-true u i e, t) (each_stays (suc u) n (put u l) (rw length-set h) (put_at u l h t p)))
         (λ e. let ne = eqb-false u i e in
-        cases (touched i) (λ f. rw f (each-comes u (suc i) n (put i l) (rw length-set h) (omega arith) (omega arith) t p))
-        (λ f. rw f (each-comes u (suc i) n l h (omega arith) (omega arith) t p)))
+        cases (touched i) (λ f. rw f (each_comes u (suc i) n (put i l) (rw length-set h) (omega arith) (omega arith) t p))
+        (λ f. rw f (each_comes u (suc i) n l h (omega arith) (omega arith) t p)))
 
     -- the place is u's: v comes there, or was there if u isn't touched
     pub each_at : (u n : ℕ) (l : List A) → j < length l → u < n → place u ≡ j → (touched u ≡ false → get_or l j d ≡ v)
         → get_or (each touched put 0 n l) j d ≡ v
-    each_at u n l h b p f = cases (touched u) (λ t. each-comes u 0 n l h (omega arith) (omega arith) t p) (λ t. each-stays 0 n l h (f t))
+    each_at u n l h b p f = cases (touched u) (λ t. each_comes u 0 n l h (omega arith) (omega arith) t p) (λ t. each_stays 0 n l h (f t))
 
 -- the touched records are back, and the others stood there
 pub records_back : {A : Type 0} (touched : ℕ → Bool) (d : A) (n : ℕ) (old new : List A) → length old ≡ n → length new ≡ n

@@ -47,11 +47,11 @@ module _ (touched differs : ℕ → Bool) (entry : ℕ → List ℕ) (w : ℕ) w
   -- each takes w bytes, and who doesn't differ is x
   module _ (h : (i : ℕ) → touched i ≡ true → length (entry i) ≤ w) (x : ℕ)
       (only : (i : ℕ) → touched i ≡ true → differs i ≡ false → i ≡ x) where
-    entries-either : (i n : ℕ) → (x < i → length (entries_from touched entry i n) ≤ w * count_from differs i n)
+    entries_either : (i n : ℕ) → (x < i → length (entries_from touched entry i n) ≤ w * count_from differs i n)
         × (length (entries_from touched entry i n) ≤ w * count_from differs i n + w)
-    entries-either i zero = (λ _. omega arith, omega arith)
-    entries-either i (suc n) =
-        let (late, any) = entries-either (suc i) n in
+    entries_either i zero = (λ _. omega arith, omega arith)
+    entries_either i (suc n) =
+        let (late, any) = entries_either (suc i) n in
         rw (mul-add w (one (differs i)) (count_from differs (suc i) n))
         (cases (touched i)
         (λ e. let s = h i e in
@@ -60,8 +60,8 @@ module _ (touched differs : ℕ → Bool) (entry : ℕ → List ℕ) (w : ℕ) w
         (λ d. let z = only i e d in rw (d, mul-zero) (λ b. absurd (omega arith), omega (arith, late (omega arith))))))
         (λ e. rw e (λ b. omega (arith, late (omega arith)), omega arith)))
 
-    pub entries-but-one : (i n : ℕ) → length (entries_from touched entry i n) ≤ w * count_from differs i n + w
-    entries-but-one i n = (entries-either i n).1
+    pub entries_but_one : (i n : ℕ) → length (entries_from touched entry i n) ≤ w * count_from differs i n + w
+    entries_but_one i n = (entries_either i n).1
 
 -- nobody is touched
 pub entries_none : (touched : ℕ → Bool) (entry : ℕ → List ℕ) (i n : ℕ) → ((j : ℕ) → i ≤ j → j < i + n → touched j ≡ true → ⊥)
@@ -104,33 +104,33 @@ entry_two m ws id os ps h = omega (arith, fields_short ws os ps m h)
 
 module _ (c : Call) where
   module _ (old : Threads) (new : List Thread) where
-    pub thread-entry : (t : ℕ) → length (thread_entry c old new t) ≤ 15
+    pub thread_entry_lem : (t : ℕ) → length (thread_entry c old new t) ≤ 15
     unfolding sum
-    thread-entry t = entry_three 15 _ t _ _ _ _ (omega (arith, widths_twelve (thread_code (thread_in old t))))
+    thread_entry_lem t = entry_three 15 _ t _ _ _ _ (omega (arith, widths_twelve (thread_code (thread_in old t))))
 
-    pub threads-run : (runner i n : ℕ) → length (thread_entries c runner old new i n) ≤ 15 * n
-    threads-run runner = entries_each _ (thread_entry c old new) 15 thread-entry
+    pub threads_run : (runner i n : ℕ) → length (thread_entries c runner old new i n) ≤ 15 * n
+    threads_run runner = entries_each _ (thread_entry c old new) 15 thread_entry_lem
 
   module _ (old new : List Semaphore) where
-    pub semaphore-entry : (i : ℕ) → length (semaphore_entry c old new i) ≤ 15
+    pub semaphore_entry_lem : (i : ℕ) → length (semaphore_entry c old new i) ≤ 15
     unfolding sum
-    semaphore-entry i = entry_two 13 semaphore_widths i _ _ (body_short semaphore_widths _ _)
+    semaphore_entry_lem i = entry_two 13 semaphore_widths i _ _ (body_short semaphore_widths _ _)
 
-    pub semaphores-run : (i n : ℕ) → length (semaphore_entries c old new i n) ≤ 15 * n
-    semaphores-run = entries_each _ (semaphore_entry c old new) 15 semaphore-entry
+    pub semaphores_run : (i n : ℕ) → length (semaphore_entries c old new i n) ≤ 15 * n
+    semaphores_run = entries_each _ (semaphore_entry c old new) 15 semaphore_entry_lem
 
   module _ (runner : ℕ) (old : Posts) (new : List Message) where
-    message-entry : (m : ℕ) → length (message_entry c runner old new m) ≤ 17
+    message_entry_lem : (m : ℕ) → length (message_entry c runner old new m) ≤ 17
     unfolding sum
-    message-entry m = entry_two 15 message_widths m _ _ (body_short message_widths _ _)
+    message_entry_lem m = entry_two 15 message_widths m _ _ (body_short message_widths _ _)
 
     -- with `live` as predicted
-    pub message-entry-live : (m : ℕ) → one (message_in old m).live ≡ cond (is c 24) 0 1 → length (message_entry c runner old new m) ≤ 16
+    pub message_entry_live : (m : ℕ) → one (message_in old m).live ≡ cond (is c 24) 0 1 → length (message_entry c runner old new m) ≤ 16
     unfolding predicted_message sum
-    message-entry-live m e = entry_two 14 message_widths m _ _ (body_first 1 _ _ (1 ∷ 1 ∷ 2 ∷ 4 ∷ 4 ∷ 1 ∷ 1 ∷ []) _ _ e)
+    message_entry_live m e = entry_two 14 message_widths m _ _ (body_first 1 _ _ (1 ∷ 1 ∷ 2 ∷ 4 ∷ 4 ∷ 1 ∷ 1 ∷ []) _ _ e)
 
-    pub messages-run : (i n : ℕ) → length (message_entries c runner old new i n) ≤ 17 * n
-    messages-run = entries_each _ (message_entry c runner old new) 17 message-entry
+    pub messages_run : (i n : ℕ) → length (message_entries c runner old new i n) ≤ 17 * n
+    messages_run = entries_each _ (message_entry c runner old new) 17 message_entry_lem
 
   -- ---- the levels and the runner
   pub levels_short : (u r t u' r' t' : ℕ) → length (levels_noted c u r t u' r' t') ≤ 4
@@ -159,11 +159,11 @@ module _ (k : Kernel) (c : Call) (k' : Kernel) where
 
   pub threads_below : length (threads_section k c k') ≤ 15 * thread_count
   unfolding threads_section
-  threads_below = threads-run c (threads_of k) k'.threads k.runner 0 thread_count
+  threads_below = threads_run c (threads_of k) k'.threads k.runner 0 thread_count
 
   pub semaphores_below : length (semaphores_section k c k') ≤ 15 * semaphore_count
   unfolding semaphores_section
-  semaphores_below = semaphores-run c k.semaphores k'.semaphores 0 semaphore_count
+  semaphores_below = semaphores_run c k.semaphores k'.semaphores 0 semaphore_count
 
   pub events_below : length (events_section k c k') ≤ 1 + 11 * event_count
   unfolding events_section
@@ -176,4 +176,4 @@ module _ (k : Kernel) (c : Call) (k' : Kernel) where
 
   pub messages_below : length (messages_section k c k') ≤ 17 * message_count
   unfolding messages_section
-  messages_below = messages-run c k'.runner (posts_of k) k'.messages 0 message_count
+  messages_below = messages_run c k'.runner (posts_of k) k'.messages 0 message_count

@@ -28,7 +28,7 @@ use Rattle.spec_notes.specs.Within.{Within}
 use Rattle.spec_notes.specs.LeftAlone.{LeftAlone}
 use Rattle.spec_notes.proofs.RowsBack.{Fit, field, unused, entry_row, entry_rest}
 use Rattle.spec_notes.proofs.RecordsBack.{flag_below, event_back, same_event_lem}
-use Rattle.spec_notes.proofs.EntriesBack.{read-part, first_other, records_back}
+use Rattle.spec_notes.proofs.EntriesBack.{read_part, first_other, records_back}
 
 module _ (k : Kernel) (c : Call) (k' : Kernel) where
   abbrev touched : ℕ → Bool
@@ -89,11 +89,11 @@ module _ (k : Kernel) (c : Call) (k' : Kernel) where
       unfolding touched_event
       untouched i h = sym (same_event_lem (event k i) (event k' i) (not-false _ h))
 
-      pub events-back : events_before k'.events (events_section k c k') ≡ k.events
+      pub events_back : events_before k'.events (events_section k c k') ≡ k.events
       unfolding events_before touched_event
-      events-back =
+      events_back =
           ap (λ (s : List ℕ). read_entries (own_in event_widths) (event_read k'.events) (length (events_section k c k')) s k'.events)
           opens.1
-          ∙ read-part (own_in event_widths) (event_read k'.events) touched entry step (λ _. refl) next (λ a. a) step
+          ∙ read_part (own_in event_widths) (event_read k'.events) touched entry step (λ _. refl) next (λ a. a) step
           (λ _ _. refl) _ event_count _ (omega arith) opens.2
           ∙ records_back touched no_event event_count k.events k'.events Z.events Z'.events (λ i _ e. untouched i e)

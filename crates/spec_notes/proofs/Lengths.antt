@@ -42,8 +42,8 @@ use Rattle.spec_notes.specs.Notes.{before_length, note_of, least_note}
 use Rattle.spec_notes.specs.Counts.{most_bytes}
 use Rattle.spec_notes.proofs.RecordsBack.{same_thread_lem, same_semaphore_lem}
 use Rattle.spec_notes.proofs.Counting.{count_from, same_message_record, threads_differ, semaphores_differ, messages_differ, flags_differ}
-use Rattle.spec_notes.proofs.EntriesShort.{entries_short, entries-but-one, count_none}
-use Rattle.spec_notes.proofs.EntriesShort.{thread-entry, semaphore-entry, event_entry_lem, message-entry-live, bit_short}
+use Rattle.spec_notes.proofs.EntriesShort.{entries_short, entries_but_one, count_none}
+use Rattle.spec_notes.proofs.EntriesShort.{thread_entry_lem, semaphore_entry_lem, event_entry_lem, message_entry_live, bit_short}
 use Rattle.spec_notes.proofs.EntriesShort.{entry_two, scheduler_short, flags_below}
 use Rattle.spec_notes.proofs.Slight.{Slight, row_same, effect_slight}
 use Rattle.spec_notes.proofs.TickSlight.{Aged, tick_threads, tick_semaphores}
@@ -127,24 +127,24 @@ module _ (k : Kernel) (c : Call) (k' : Kernel) where
   message_differs m = not (same_message_record (message k m) (message k' m))
 
   module _ (L : Slight k c k') where
-    events-one : (n : ℕ) → length (event_entries k.events k'.events 0 n) ≤ 11
+    events_one : (n : ℕ) → length (event_entries k.events k'.events 0 n) ≤ 11
     unfolding touched_event
-    events-one n =
+    events_one n =
         let s : length (event_entries k.events k'.events 0 n) ≤ 11 * count_from (λ _. false) 0 n + 11 =
-        entries-but-one (touched_event k c k') _ (event_entry k.events k'.events) 11 (λ i _. event_entry_lem k.events k'.events i)
+        entries_but_one (touched_event k c k') _ (event_entry k.events k'.events) 11 (λ i _. event_entry_lem k.events k'.events i)
         c.a (λ i t _. L.events i t) 0 n in
         let z = count_none 0 n in
         omega arith
 
     events_short : length (events_section k c k') ≤ 12
     unfolding events_section
-    events_short = rw length-append (omega (arith, bit_short k.bits k'.bits, events-one event_count))
+    events_short = rw length-append (omega (arith, bit_short k.bits k'.bits, events_one event_count))
 
     messages_short : length (messages_section k c k') ≤ 16 * messages_differ k k' + 16
     unfolding messages_section messages_differ touched_message
     messages_short =
-        entries-but-one (touched_message k c k') message_differs (message_entry c k'.runner (posts_of k) k'.messages) 16
-        (λ m t. message-entry-live c k'.runner (posts_of k) k'.messages m (L.lives m t))
+        entries_but_one (touched_message k c k') message_differs (message_entry c k'.runner (posts_of k) k'.messages) 16
+        (λ m t. message_entry_live c k'.runner (posts_of k) k'.messages m (L.lives m t))
         L.which (λ m t d. L.alike m t (not-false _ d)) 0 message_count
 
   -- ---- any call but the tick
@@ -153,22 +153,22 @@ module _ (k : Kernel) (c : Call) (k' : Kernel) where
     unfolding touched_thread
     thread_moves t h d = moves_which k.runner c t (rw (younger_now c (thread k' t) o, d) at h)
 
-    threads-called : length (threads_section k c k') ≤ 15 * threads_differ k k' + 15
+    threads_called : length (threads_section k c k') ≤ 15 * threads_differ k k' + 15
     unfolding threads_section threads_differ touched_thread
-    threads-called =
-        entries-but-one (touched_thread k c k') thread_differs (thread_entry c (threads_of k) k'.threads) 15
-        (λ t _. thread-entry c (threads_of k) k'.threads t)
+    threads_called =
+        entries_but_one (touched_thread k c k') thread_differs (thread_entry c (threads_of k) k'.threads) 15
+        (λ t _. thread_entry_lem c (threads_of k) k'.threads t)
         (cond (is c 6) k.runner c.a) thread_moves 0 thread_count
 
     semaphore_differs_lem : (i : ℕ) → touched_semaphore k c k' i ≡ true → semaphore_differs i ≡ true
     unfolding touched_semaphore
     semaphore_differs_lem i h = rw (semaphore_now c (semaphore k' i) o) at h
 
-    semaphores-called : length (semaphores_section k c k') ≤ 15 * semaphores_differ k k'
+    semaphores_called : length (semaphores_section k c k') ≤ 15 * semaphores_differ k k'
     unfolding semaphores_section semaphores_differ touched_semaphore
-    semaphores-called =
+    semaphores_called =
         entries_all (touched_semaphore k c k') semaphore_differs (semaphore_entry c k.semaphores k'.semaphores) 15
-        (semaphore-entry c k.semaphores k'.semaphores) semaphore_differs_lem 0 semaphore_count
+        (semaphore_entry_lem c k.semaphores k'.semaphores) semaphore_differs_lem 0 semaphore_count
 
   -- ---- the tick
   module _ (B : Before k) (B' : Before k') (e : c.kind ≡ 1) where
@@ -183,18 +183,18 @@ module _ (k : Kernel) (c : Call) (k' : Kernel) where
           absurd (false≢true (simp (← z, younger_still c r d, thread_same r, e) at h)))
           (λ s. rw s)
 
-      threads-tick : length (threads_section k c k') ≤ 15 * threads_differ k k'
+      threads_tick : length (threads_section k c k') ≤ 15 * threads_differ k k'
       unfolding threads_section threads_differ touched_thread
-      threads-tick =
+      threads_tick =
           entries_all (touched_thread k c k') thread_differs (thread_entry c (threads_of k) k'.threads) 15
-          (thread-entry c (threads_of k) k'.threads) thread_differs_lem 0 thread_count
+          (thread_entry_lem c (threads_of k) k'.threads) thread_differs_lem 0 thread_count
 
     module _ (aged : (i : ℕ) → i < semaphore_count → Aged (semaphore k i) (semaphore k' i)) where
       -- whose record is the same had one tick left and isn't full, as predicted
-      semaphore-predicted : (i : ℕ) → touched_semaphore k c k' i ≡ true → same_semaphore (semaphore k i) (semaphore k' i) ≡ true
+      semaphore_predicted : (i : ℕ) → touched_semaphore k c k' i ≡ true → same_semaphore (semaphore k i) (semaphore k' i) ≡ true
           → predicted_semaphore c (semaphore k' i) ≡ semaphore_row (semaphore k i)
       unfolding touched_semaphore predicted_semaphore
-      semaphore-predicted i h s =
+      semaphore_predicted i h s =
           let r = semaphore k i in
           let z : semaphore k' i ≡ r = sym (same_semaphore_lem r (semaphore k' i) s) in
           let p : r.period ≡ 0 → ⊥ =
@@ -207,18 +207,18 @@ module _ (k : Kernel) (c : Call) (k' : Kernel) where
           (λ f. absurd (false≢true (rw (z, semaphore_full c r one_left one-period f, semaphore_same r) at h)))
           (λ f. rw (z, e, l, one_left, f))
 
-      semaphore-two : (i : ℕ) → touched_semaphore k c k' i ≡ true
+      semaphore_two : (i : ℕ) → touched_semaphore k c k' i ≡ true
           → length (semaphore_entry c k.semaphores k'.semaphores i) ≤ 13 * one (semaphore_differs i) + 2
-      semaphore-two i h =
+      semaphore_two i h =
           cases (same_semaphore (semaphore k i) (semaphore k' i))
-          (λ s. rw (s, semaphore-predicted i h s)
+          (λ s. rw (s, semaphore_predicted i h s)
           (entry_two 0 semaphore_widths i _ _ (rw (body_same semaphore_widths (semaphore_row (semaphore k i))) (omega arith))))
-          (λ s. rw s (semaphore-entry c k.semaphores k'.semaphores i))
+          (λ s. rw s (semaphore_entry_lem c k.semaphores k'.semaphores i))
 
-      semaphores-tick : length (semaphores_section k c k') ≤ 13 * semaphores_differ k k' + 32
+      semaphores_tick : length (semaphores_section k c k') ≤ 13 * semaphores_differ k k' + 32
       unfolding semaphores_section semaphores_differ touched_semaphore
-      semaphores-tick =
-          entries_short (touched_semaphore k c k') semaphore_differs (semaphore_entry c k.semaphores k'.semaphores) 13 2 semaphore-two 0
+      semaphores_tick =
+          entries_short (touched_semaphore k c k') semaphore_differs (semaphore_entry c k.semaphores k'.semaphores) 13 2 semaphore_two 0
           semaphore_count
 
 -- ---- the note
@@ -265,9 +265,9 @@ note_short k bytes b Z R h =
     let messages = messages_short k c k' L in
     cases (is c 1)
     (λ o. let e = eqb-true c.kind 1 o in
-    let threads = threads-tick k c k' B (before k' Z' R') e (scheduled_threads k c B e) in
-    let semaphores = semaphores-tick k c k' B (before k' Z' R') e (scheduled_semaphores k c B e) in
+    let threads = threads_tick k c k' B (before k' Z' R') e (scheduled_threads k c B e) in
+    let semaphores = semaphores_tick k c k' B (before k' Z' R') e (scheduled_semaphores k c B e) in
     omega arith)
-    (λ o. let threads = threads-called k c k' o in
-    let semaphores = semaphores-called k c k' o in
+    (λ o. let threads = threads_called k c k' o in
+    let semaphores = semaphores_called k c k' o in
     omega arith)

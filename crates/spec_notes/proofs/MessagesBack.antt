@@ -29,7 +29,7 @@ use Rattle.spec_notes.specs.Within.{Within}
 use Rattle.spec_notes.specs.LeftAlone.{LeftAlone}
 use Rattle.spec_notes.proofs.RowsBack.{Fit, none, field, entry_row, entry_rest}
 use Rattle.spec_notes.proofs.RecordsBack.{flag_below, message_back_lem, same_message_lem}
-use Rattle.spec_notes.proofs.EntriesBack.{each, read-part, records_back}
+use Rattle.spec_notes.proofs.EntriesBack.{each, read_part, records_back}
 use Rattle.spec_notes.proofs.TablesBack.{place_below, table_back}
 
 module _ (k : Kernel) (c : Call) (k' : Kernel) where
@@ -78,7 +78,7 @@ module _ (k : Kernel) (c : Call) (k' : Kernel) where
         (f (record { messages = k'.messages; out = replicate capacity 0; at = replicate capacity 255 }))
     unfolding messages_before messages_section touched_message
     part f put h =
-        read-part (own_in message_widths) (message_read c k'.runner k'.messages) touched entry step (λ _. refl) next f put h
+        read_part (own_in message_widths) (message_read c k'.runner k'.messages) touched entry step (λ _. refl) next f put h
         _ message_count _ (omega arith) (le_refl _)
 
     module _ (Z' : Sized k') where
@@ -86,13 +86,13 @@ module _ (k : Kernel) (c : Call) (k' : Kernel) where
       unfolding touched_message
       untouched m h = sym (same_message_lem (message k m) (message k' m) (not-false _ h))
 
-      pub messages-back : read.messages ≡ k.messages
-      messages-back =
+      pub messages_back : read.messages ≡ k.messages
+      messages_back =
           part (λ a. a.messages) (λ m l. set l m (message k m)) (λ _ _. refl)
           ∙ records_back touched no_message message_count k.messages k'.messages Z.messages Z'.messages (λ m _ e. untouched m e)
 
-      pub posted-back : Rules k → Rules k' → LeftAlone k c k' → put_back_all read.out read.at k'.posted ≡ k.posted
-      posted-back R R' F =
+      pub posted_back : Rules k → Rules k' → LeftAlone k c k' → put_back_all read.out read.at k'.posted ≡ k.posted
+      posted_back R R' F =
           let S = filed k Z R in
           table_back is_queued no_message refl message_count (omega arith) touched k.messages k'.messages k.posted k'.posted
           Z.messages

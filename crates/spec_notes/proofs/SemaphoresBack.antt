@@ -23,7 +23,7 @@ use Rattle.spec_notes.specs.Back.{semaphore_read, semaphores_before}
 use Rattle.spec_notes.specs.Within.{Within}
 use Rattle.spec_notes.proofs.RowsBack.{Fit, field, unused, entry_row, entry_rest}
 use Rattle.spec_notes.proofs.RecordsBack.{flag_below, semaphore_back, same_semaphore_lem}
-use Rattle.spec_notes.proofs.EntriesBack.{get_d_map, read-part, records_back}
+use Rattle.spec_notes.proofs.EntriesBack.{get_d_map, read_part, records_back}
 
 module _ (k : Kernel) (c : Call) (k' : Kernel) (W : Within k) where
   abbrev touched : ℕ → Bool
@@ -53,10 +53,10 @@ module _ (k : Kernel) (c : Call) (k' : Kernel) (W : Within k) where
     unfolding touched_semaphore
     untouched i h = sym (same_semaphore_lem (semaphore k i) (younger_semaphore c (semaphore k' i)) (not-false _ h))
 
-    pub semaphores-back : semaphores_before c k'.semaphores (semaphores_section k c k') ≡ k.semaphores
+    pub semaphores_back : semaphores_before c k'.semaphores (semaphores_section k c k') ≡ k.semaphores
     unfolding semaphores_before semaphores_section touched_semaphore
-    semaphores-back =
-        read-part (own_in semaphore_widths) (semaphore_read c k'.semaphores) touched entry step (λ _. refl) next (λ a. a) step
+    semaphores_back =
+        read_part (own_in semaphore_widths) (semaphore_read c k'.semaphores) touched entry step (λ _. refl) next (λ a. a) step
         (λ _ _. refl) _ semaphore_count _ (omega arith) (le_refl _)
         ∙ records_back touched no_semaphore semaphore_count k.semaphores (map (younger_semaphore c) k'.semaphores) Z.semaphores
         (length-map k'.semaphores _ ∙ Z'.semaphores)

@@ -22,7 +22,7 @@ use Rattle.spec_kernel.specs.Records.{thread, no_thread}
 use Rattle.spec_kernel.specs.Conditions.{ready_for}
 use Rattle.spec_moves.specs.Moves.{relocate}
 use Rattle.spec_moves.specs.Standing.{threads_of, posts_of}
-use Rattle.spec_moves.proofs.Threads.{relocate_past, relocate_same, relocate-keep, relocate-time-keep}
+use Rattle.spec_moves.proofs.Threads.{relocate_past, relocate_same, relocate_keep, relocate_time_keep}
 use Rattle.spec_moves.proofs.Posts.{repost_past, repost_keep}
 use Rattle.spec_kernel.specs.Free.{free_thread}
 use Rattle.spec_calls.specs.declared.call.Call.{Call}
@@ -105,11 +105,11 @@ module _ (r : Thread) where
       cases r.live (λ e. rw e (omega (arith, (condition_code_lem r.condition).1 h))) (λ e. rw e (omega arith))
 
   module _ (e : r.live ≡ true) where
-    pub live-code : 1 ≤ thread_code r
-    live-code = rw e (condition_code_lem r.condition).0
+    pub live_code : 1 ≤ thread_code r
+    live_code = rw e (condition_code_lem r.condition).0
 
-    pub down-code : up r ≡ false → 1 < thread_code r
-    down-code h = rw e ((condition_code_lem r.condition).2 h)
+    pub down_code : up r ≡ false → 1 < thread_code r
+    down_code h = rw e ((condition_code_lem r.condition).2 h)
 
 -- ---- who is touched
 module _ (k : Kernel) (c : Call) (u : Kernel) (t : ℕ) where
@@ -129,7 +129,7 @@ module _ (k : Kernel) (c : Call) (u : Kernel) (t : ℕ) where
 -- ---- one move
 pub relocate_keeps : (p : Threads) (t : ℕ) (r : Thread) (f : ℕ → Bool) → (t < thread_count → f t ≡ false) → Keeps f p (relocate t r p)
 relocate_keeps p t r f h =
-    cases (ltb t thread_count) (λ e. let z = h (ltb-true t thread_count e) in (relocate-keep p t r f z, relocate-time-keep p t r f z))
+    cases (ltb t thread_count) (λ e. let z = h (ltb-true t thread_count e) in (relocate_keep p t r f z, relocate_time_keep p t r f z))
     (λ e. rw (relocate_past p t r (ltb-false t thread_count e)) (refl, refl))
 
 module _ (k : Kernel) (c : Call) (t : ℕ) (r : Thread) where
@@ -164,7 +164,7 @@ module _ {k : Kernel} (B : Before k) {c : Call} (A : Accepted k c) where
       let ready = caller_ready B A f in
       let l = ready_live s ready in
       quiet o (refl, refl, refl)
-      (code_stays k c k.runner r B.core.standing.count (λ z. omega (arith, up_code s (rw l at ready), down-code r l h))) refl e
+      (code_stays k c k.runner r B.core.standing.count (λ z. omega (arith, up_code s (rw l at ready), down_code r l h))) refl e
 
   pub kind_2 : c.kind ≡ 2 → Left k c (create_thread k c)
   unfolding create_thread none_free named value_of kind_of

@@ -13,7 +13,7 @@ use Rattle.spec_kernel.specs.Sizes.{flag_count}
 use Rattle.spec_kernel.specs.Conditions.{of_flags}
 use Rattle.spec_kernel.specs.Places.{home}
 use Rattle.spec_kernel.specs.Free.{free_flag}
-use Rattle.spec_kernel.proofs.LowestClear.{clear-is-clear}
+use Rattle.spec_kernel.proofs.LowestClear.{clear_is_clear}
 use Rattle.spec_calls.specs.declared.call.Call.{Call}
 use Rattle.spec_calls.specs.Kinds.{kind_of, from_thread}
 use Rattle.spec_refusals.specs.Named.{named, value_of}
@@ -35,7 +35,7 @@ module _ {k : Kernel} (B : Before k) {c : Call} (A : Accepted k c) where
   unfolding create_flag predicted_flags touched_thread touched_message none_free named value_of kind_of
   kind_31 e =
       let free : eqb (free_flag k) 255 ≡ false = simp (e, or-false) at A.free in
-      let (_, clear) = clear-is-clear k.flags flag_count (eqb-false (free_flag k) 255 free) in
+      let (_, clear) = clear_is_clear k.flags flag_count (eqb-false (free_flag k) 255 free) in
       record {
         threads = (refl, refl);
         posts = refl;

@@ -41,7 +41,7 @@ use Rattle.proof_rules.proofs.OfDestroy.{freed_record}
 use Rattle.proof_rules.proofs.Steps.{ready_live, caller_ready}
 use Rattle.spec_notes.specs.Rows.{message_row}
 use Rattle.spec_notes.specs.Touched.{same_row, same_message, touched_thread, touched_message}
-use Rattle.spec_notes.proofs.Stays.{PostsStay, Left, quiet, up_code, live-code, down-code, code_stays, file_stays, block_left}
+use Rattle.spec_notes.proofs.Stays.{PostsStay, Left, quiet, up_code, live_code, down_code, code_stays, file_stays, block_left}
 
 -- ---- rows that differ at a place
 rows_differ : (l m : List ℕ) (i : ℕ) → (get_or l i 0 ≡ get_or m i 0 → ⊥) → same_row l m ≡ false
@@ -100,7 +100,7 @@ module _ {k : Kernel} (B : Before k) {c : Call} (A : Accepted k c) where
   kind_3 e =
       let l = thread_named A e refl in
       quiet (refl, refl) (refl, refl, refl)
-      (code_stays k c c.a no_thread B.core.standing.count (λ z. omega (arith, live-code (thread k c.a) l)))
+      (code_stays k c c.a no_thread B.core.standing.count (λ z. omega (arith, live_code (thread k c.a) l)))
       (free_stays k c c.a) e
 
   -- a message gets a record that differs in a field
@@ -142,7 +142,7 @@ module _ {k : Kernel} (B : Before k) {c : Call} (A : Accepted k c) where
       let r : Thread = awake Wake.Met c.a (thread k c.b) in
       rw h
       (quiet (refl, refl) (refl, refl, refl)
-      (code_stays k c c.b r B.core.standing.count (λ z. omega (arith, down-code (thread k c.b) l down, up_code r refl)))
+      (code_stays k c c.b r B.core.standing.count (λ z. omega (arith, down_code (thread k c.b) l down, up_code r refl)))
       (file_differs c.a _ 1 (λ z. false≢true (sym down ∙ (rw (sym own ∙ z) at up)))) e))
       (λ h. rw h (quiet (refl, refl) (refl, refl, refl) (refl, refl) (file_differs c.a _ 6 (λ z. omega arith)) e)))
 

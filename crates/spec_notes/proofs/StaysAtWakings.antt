@@ -34,7 +34,7 @@ use Rattle.spec_events.specs.Events.{work_out, work_out_from}
 use Rattle.proof_rules.proofs.Core.{Core, live_waiter}
 use Rattle.proof_rules.proofs.Wakings.{woken, wakes, as_met, line_standing, line_woken}
 use Rattle.spec_notes.specs.Touched.{touched_thread}
-use Rattle.spec_notes.proofs.Stays.{Keeps, ThreadsStay, up, up_code, down-code, touched_code, relocate_keeps}
+use Rattle.spec_notes.proofs.Stays.{Keeps, ThreadsStay, up, up_code, down_code, touched_code, relocate_keeps}
 
 -- priorities are bytes
 abbrev pub Small : Threads → Type 0
@@ -71,7 +71,7 @@ wakes_stay {k} C c u W =
     W.frame (λ t. not (touched_thread k c u t))
     (λ t d e.
     let l = live_waiter C t (λ z. false≢true (sym d ∙ ap ready_for z)) in
-    rw (touched_code k c u t (λ z. omega (arith, down-code (thread k t) l d, up_code (thread u t) e))))
+    rw (touched_code k c u t (λ z. omega (arith, down_code (thread k t) l d, up_code (thread u t) e))))
 
 -- ---- those that are called wake: they are not up
 pub called_wakes : (why : Thread → Wake) {p q : Threads} → Small p → Standing q → (called : ℕ → Bool)

@@ -15,9 +15,9 @@ use Rattle.base_queue.specs.Lists.{keep, count, has, place_of}
 use Rattle.base_queue.specs.Queues.{capacity, items, pack, Tidy}
 use Rattle.base_queue.specs.Tables.{one, Placed, old_place}
 use Rattle.base_queue.proofs.Counts.{count_head, count_rest, count_at, place_of_there, place_of_at, keep_same}
-use Rattle.base_queue.proofs.Tables.{placed_once, placed_past, placed-short}
+use Rattle.base_queue.proofs.Tables.{placed_once, placed_past, placed_short}
 use Rattle.spec_notes.specs.Back.{fill_place, merge, put_back_all}
-use Rattle.spec_notes.proofs.EntriesBack.{get_d_any, each, each-stays, each_at, marked}
+use Rattle.spec_notes.proofs.EntriesBack.{get_d_any, each, each_stays, each_at, marked}
 
 -- a noted member goes to its place
 place_noted : (x : ℕ) (l : List ℕ) (go : List ℕ → List ℕ) → eqb x 255 ≡ false → fill_place x l go ≡ x ∷ go l
@@ -65,8 +65,8 @@ module _ (touched : ℕ → Bool) where
     old = each touched (λ i at. set at (old_place i l) i) 0 n (replicate m 255)
 
     -- who comes to a place stood there
-    old-only : (j : ℕ) → j < m → (i : ℕ) → touched i ≡ true → old_place i l ≡ j → i ≡ noted (get_or l j 255)
-    old-only j b i t p =
+    old_only : (j : ℕ) → j < m → (i : ℕ) → touched i ≡ true → old_place i l ≡ j → i ≡ noted (get_or l j 255)
+    old_only j b i t p =
         cases (has i l)
         (λ e. let (h, is) = place_of_there i l (ltb-true 0 (count i l) e) in
         let q : place_of i l ≡ j = rw e at p in
@@ -74,21 +74,21 @@ module _ (touched : ℕ → Bool) where
         (λ e. absurd (omega (arith, rw e at p)))
 
     -- a member stood at its place
-    old-place : (j : ℕ) → j < length l → (get_or l j 255 < n) × (old_place (get_or l j 255) l ≡ j)
-    old-place j h =
+    old_place_lem : (j : ℕ) → j < length l → (get_or l j 255 < n) × (old_place (get_or l j 255) l ≡ j)
+    old_place_lem j h =
         let c = count_at l j h in
         let p = place_of_at l j h (once (get_or l j 0)) in
         rw (get_d_any l j 255 0 h, lt-ltb 0 _ c) (ids (get_or l j 0) c, p)
 
-    old-noted : (j : ℕ) → j < m → get_or old j 255 ≡ noted (get_or l j 255)
-    old-noted j b =
+    old_noted : (j : ℕ) → j < m → get_or old j 255 ≡ noted (get_or l j 255)
+    old_noted j b =
         let full = length-replicate {A = ℕ} m 255 in
         let x = get_or l j 255 in
         cases (ltb j (length l))
-        (λ h. let (low, p) = old-place j (ltb-true j (length l) h) in
-        each_at touched (λ i. old_place i l) (λ i. i) 255 j (noted x) (old-only j b) x n (replicate m 255) (omega arith) low p
+        (λ h. let (low, p) = old_place_lem j (ltb-true j (length l) h) in
+        each_at touched (λ i. old_place i l) (λ i. i) 255 j (noted x) (old_only j b) x n (replicate m 255) (omega arith) low p
         (λ t. get_or-replicate m j 255 255 b ∙ rw t))
-        (λ h. each-stays touched (λ i. old_place i l) (λ i. i) 255 j (noted x) (old-only j b) 0 n (replicate m 255) (omega arith)
+        (λ h. each_stays touched (λ i. old_place i l) (λ i. i) 255 j (noted x) (old_only j b) 0 n (replicate m 255) (omega arith)
         (get_or-replicate m j 255 255 b ∙ sym (rw (get_or-eq_default l 255 {n = j} (ltb-false j (length l) h)) noted_none)))
 
     -- all of it, where `out` marks those that were touched
@@ -96,7 +96,7 @@ module _ (touched : ℕ → Bool) where
         → merge m old (keep (λ x. eqb (get_or (each touched (λ i out. set out i 1) 0 n (replicate m 0)) x 0) 0) l') ≡ l
     merged l' b ids' framed =
         ap (merge m old) (keep_same l' (λ x c. rw (marked touched n m b x (ids' x c)) (unmarked (touched x))) ∙ framed)
-        ∙ merge_back m old l s (λ x c. omega (arith, ids x c)) old-noted
+        ∙ merge_back m old l s (λ x c. omega (arith, ids x c)) old_noted
 
 -- ---- records that say of themselves whether they belong into the table
 module _ {A : Type 0} (belongs : A → Bool) (none : A) (out : belongs none ≡ false) (n : ℕ) (few : n ≤ capacity) where
@@ -119,7 +119,7 @@ module _ {A : Type 0} (belongs : A → Bool) (none : A) (out : belongs none ≡ 
   unfolding put_back_all
   table_back touched old new q q' s s' tidy P P' framed o a =
       let l = items q in
-      let short = placed-short (member old) l n (past old s) P in
+      let short = placed_short (member old) l n (past old s) P in
       ap₂ (λ out at. put_back_all out at q') o a
       ∙ ap pack
       (merged touched n capacity l (placed_once (member old) l P) (ids old l s P) (omega arith) (omega arith) (items q') few

@@ -37,7 +37,7 @@ use Rattle.spec_notes.specs.Within.{Within}
 use Rattle.spec_notes.specs.LeftAlone.{LeftAlone}
 use Rattle.spec_notes.proofs.RowsBack.{Fit, none, field, entry_row, entry_rest}
 use Rattle.spec_notes.proofs.RecordsBack.{ByteId, Dead, thread_back_lem, same_thread_lem}
-use Rattle.spec_notes.proofs.EntriesBack.{get_d_map, each, read-part, records_back}
+use Rattle.spec_notes.proofs.EntriesBack.{get_d_map, each, read_part, records_back}
 use Rattle.spec_notes.proofs.TablesBack.{place_below, table_back}
 
 pub wake_small : (w : Wake) → wake_code w < 6
@@ -89,8 +89,8 @@ module _ (k : Kernel) (c : Call) (k' : Kernel) where
 
   module _ (Z : Sized k) (R : Rules k) (W : Within k) where
     -- a live semaphore's id is a byte, and so is an event's
-    byte-id : (t : ℕ) → ByteId (thread k t).condition
-    byte-id t =
+    byte_id : (t : ℕ) → ByteId (thread k t).condition
+    byte_id t =
         let C = (before k Z R).core in
         go C (thread k t).condition (condition_of C t)
       where
@@ -110,7 +110,7 @@ module _ (k : Kernel) (c : Call) (k' : Kernel) where
     fits t =
         field (λ _. W.priority t)
         (field (λ _. W.first t)
-        (field (λ _. data_fits (thread k t) (R.dead_threads t) (byte-id t) (W.what t))
+        (field (λ _. data_fits (thread k t) (R.dead_threads t) (byte_id t) (W.what t))
         (field (λ _. W.ticks t)
         (field (λ _. wake_below (thread k t).wake)
         (field (λ _. W.reply t)
@@ -129,7 +129,7 @@ module _ (k : Kernel) (c : Call) (k' : Kernel) where
           code_back (thread_widths code) t code told _ _ rest,
           entry_rest t code told rest (fits t),
           entry_row t code told rest (fits t),
-          thread_back_lem (thread k t) _ _ (R.dead_threads t) (byte-id t),
+          thread_back_lem (thread k t) _ _ (R.dead_threads t) (byte_id t),
         )
 
     -- what the section gives, and a part of it
@@ -147,7 +147,7 @@ module _ (k : Kernel) (c : Call) (k' : Kernel) where
         }))
     unfolding threads_before threads_section touched_thread
     part f put h =
-        read-part (thread_own c k'.threads) (thread_read c k'.threads) touched entry step (λ _. refl) next f put h
+        read_part (thread_own c k'.threads) (thread_read c k'.threads) touched entry step (λ _. refl) next f put h
         _ thread_count _ (omega arith) (le_refl _)
 
     out : read.out ≡ each touched (λ t l. set l t 1) 0 thread_count (replicate capacity 0)
@@ -159,8 +159,8 @@ module _ (k : Kernel) (c : Call) (k' : Kernel) where
       untouched t h =
           sym (same_thread_lem (thread k t) (younger_thread c (thread k' t)) (neither _ _ h))
 
-      pub threads-back : read.threads ≡ k.threads
-      threads-back =
+      pub threads_back_lem : read.threads ≡ k.threads
+      threads_back_lem =
           part (λ a. a.threads) (λ t l. set l t (thread k t)) (λ _ _. refl)
           ∙ records_back touched no_thread thread_count k.threads (map (younger_thread c) k'.threads) Z.threads
           (length-map k'.threads _ ∙ Z'.threads)

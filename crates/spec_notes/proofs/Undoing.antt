@@ -37,8 +37,8 @@ use Rattle.spec_notes.proofs.RecordsBack.{same_row_lem}
 use Rattle.spec_notes.proofs.Slight.{row_same}
 use Rattle.spec_notes.proofs.SameStates.{kernel_same, same_exactly}
 use Rattle.base_rows.proofs.Fitted.{Bytes, drop_bytes, take_bytes}
-use Rattle.spec_notes.proofs.AnyNote.{threads-any, threads-sized, semaphores-any, semaphores-sized}
-use Rattle.spec_notes.proofs.AnyNote.{events_any, events_sized_lem, messages-any, messages-sized, back_full}
+use Rattle.spec_notes.proofs.AnyNote.{threads_any, threads_sized, semaphores_any, semaphores_sized_lem}
+use Rattle.spec_notes.proofs.AnyNote.{events_any, events_sized_lem, messages_any, messages_sized, back_full}
 use Rattle.spec_notes.proofs.FlagsBack.{predicted_small}
 use Rattle.spec_notes.proofs.FramesRead.{frames_back, note_sizes}
 use Rattle.spec_notes.proofs.Yields.{yields_call, yields_back}
@@ -70,18 +70,18 @@ module _ (c : Call) (k' : Kernel) (x : List (List ℕ)) (Z : Sized k') (W : With
   unfolding state_before scheduled before_at threads_back posts_back
   back_sized =
       record {
-        threads = threads-sized c k'.threads (λ t. (W.ticks t, W.priority t)) (threads_in x) ∙ Z.threads;
-        semaphores = semaphores-sized c k'.semaphores (λ i. (W.maximum i, W.left i, W.period i)) (semaphores_in x) ∙ Z.semaphores;
+        threads = threads_sized c k'.threads (λ t. (W.ticks t, W.priority t)) (threads_in x) ∙ Z.threads;
+        semaphores = semaphores_sized_lem c k'.semaphores (λ i. (W.maximum i, W.left i, W.period i)) (semaphores_in x) ∙ Z.semaphores;
         events = events_sized_lem k'.events (λ i. (W.mask i, W.values i)) (events_in x) ∙ Z.events;
         messages =
-            messages-sized c k'.runner k'.messages (λ m. (W.kind m, W.size m, W.address m, W.channel m)) (messages_in x)
+            messages_sized c k'.runner k'.messages (λ m. (W.kind m, W.size m, W.address m, W.channel m)) (messages_in x)
             ∙ Z.messages;
         places = back_full _ _ k'.places;
         time = back_full _ _ k'.time;
         posted = back_full _ _ k'.posted;
-        priorities = λ i. (threads-any c k'.threads (λ t. (W.ticks t, W.priority t)) (threads_in x) (S _) i).1;
+        priorities = λ i. (threads_any c k'.threads (λ t. (W.ticks t, W.priority t)) (threads_in x) (S _) i).1;
         channels = λ i.
-            (messages-any c k'.runner k'.messages (λ m. (W.kind m, W.size m, W.address m, W.channel m)) (messages_in x) (S _) i).3;
+            (messages_any c k'.runner k'.messages (λ m. (W.kind m, W.size m, W.address m, W.channel m)) (messages_in x) (S _) i).3;
       }
 
   bits_small : bits_before c k'.bits (events_in x) < 4294967296
@@ -109,12 +109,12 @@ module _ (c : Call) (k' : Kernel) (x : List (List ℕ)) (Z : Sized k') (W : With
   back_limits h =
       let (u, v) = (and-eq-true_iff (ltb (state_before c k' x).unscheduled 256) (ltb (state_before c k' x).critical 256)).0 h in
       record {
-        threads = λ i. (threads-any c k'.threads (λ t. (W.ticks t, W.priority t)) (threads_in x) (S _) i).0;
-        semaphores = semaphores-any c k'.semaphores (λ i. (W.maximum i, W.left i, W.period i)) (semaphores_in x) (S _);
+        threads = λ i. (threads_any c k'.threads (λ t. (W.ticks t, W.priority t)) (threads_in x) (S _) i).0;
+        semaphores = semaphores_any c k'.semaphores (λ i. (W.maximum i, W.left i, W.period i)) (semaphores_in x) (S _);
         events = events_any k'.events (λ i. (W.mask i, W.values i)) (events_in x) (S _);
         messages = λ i.
             let (a, b, d, _) =
-            messages-any c k'.runner k'.messages (λ m. (W.kind m, W.size m, W.address m, W.channel m)) (messages_in x) (S _) i in
+            messages_any c k'.runner k'.messages (λ m. (W.kind m, W.size m, W.address m, W.channel m)) (messages_in x) (S _) i in
             (a, b, d);
         bits = bits_small;
         flags = flags_small;
@@ -125,27 +125,27 @@ module _ (c : Call) (k' : Kernel) (x : List (List ℕ)) (Z : Sized k') (W : With
 module _ (k' : Kernel) (note : List ℕ) where
   -- a state and a call that yield it are those that it gives back
   module _ {k : Kernel} {bytes : List ℕ} (Y : Yields k bytes k' note) where
-    record-found : call_bytes note ≡ bytes
+    record_found : call_bytes note ≡ bytes
     unfolding call_bytes
-    record-found = yields_call Y
+    record_found = yields_call Y
 
-    pub state-found : back_from k' note ≡ k
+    pub state_found : back_from k' note ≡ k
     unfolding back_from
-    state-found = rw record-found (yields_back Y)
+    state_found = rw record_found (yields_back Y)
 
-    levels-found : levels_fit k ≡ true
+    levels_found : levels_fit k ≡ true
     unfolding levels_fit
-    levels-found = rw (lt-ltb k.unscheduled 256 Y.inside.unscheduled, lt-ltb k.critical 256 Y.inside.critical)
+    levels_found = rw (lt-ltb k.unscheduled 256 Y.inside.unscheduled, lt-ltb k.critical 256 Y.inside.critical)
 
-    yields-undone : undoes_note k' note ≡ true
+    yields_undone : undoes_note k' note ≡ true
     unfolding undoes_note yields_again
-    yields-undone =
+    yields_undone =
         let f : is_decoded (frames_of note) ≡ true = rw (← Y.noted, frames_back k bytes k' Y.sixteen) in
         rw (
           f,
-          record-found,
-          state-found,
-          levels-found,
+          record_found,
+          state_found,
+          levels_found,
           rules_hold k Y.sized Y.rules,
           eq-eqb (number_of k (call_of bytes)) 0 Y.accepted,
           Y.state,
@@ -155,39 +155,39 @@ module _ (k' : Kernel) (note : List ℕ) where
         )
 
   module _ (Z : Sized k') (R : Rules k') (W : Within k') (B : Bytes note) where
-    pub found-sized : Sized (back_from k' note)
+    pub found_sized : Sized (back_from k' note)
     unfolding back_from
-    found-sized = back_sized (call_of (call_bytes note)) k' (sections_in (frames_of note)) Z W (frames_bytes note B)
+    found_sized = back_sized (call_of (call_bytes note)) k' (sections_in (frames_of note)) Z W (frames_bytes note B)
 
-    pub found-limits : levels_fit (back_from k' note) ≡ true → Limits (back_from k' note)
+    pub found_limits : levels_fit (back_from k' note) ≡ true → Limits (back_from k' note)
     unfolding back_from
-    found-limits h = back_limits (call_of (call_bytes note)) k' (sections_in (frames_of note)) Z W (frames_bytes note B) h
+    found_limits h = back_limits (call_of (call_bytes note)) k' (sections_in (frames_of note)) Z W (frames_bytes note B) h
 
     pub record_size : 16 ≤ length note → length (call_bytes note) ≡ 16
     unfolding call_bytes
     record_size b = length-take-le 16 note b
 
-    pub record-bytes : Bytes (call_bytes note)
+    pub record_bytes : Bytes (call_bytes note)
     unfolding call_bytes
-    record-bytes = take_bytes 16 note B
+    record_bytes = take_bytes 16 note B
 
-    undone-yields : 16 ≤ length note → undoes_note k' note ≡ true → Yields (back_from k' note) (call_bytes note) k' note
+    undone_yields : 16 ≤ length note → undoes_note k' note ≡ true → Yields (back_from k' note) (call_bytes note) k' note
     unfolding undoes_note yields_again
-    undone-yields b h =
+    undone_yields b h =
         let k = back_from k' note in
         let c = call_of (call_bytes note) in
         let (_, (l, (r, (n, (s, e))))) = simp (and-true, and-eq-true_iff) at h in
-        let Z₀ = found-sized in
+        let Z₀ = found_sized in
         let R₀ = rules_mean k Z₀ r in
         let n₀ = eqb-true (number_of k c) 0 n in
         let (Z₁, R₁) = rules_kept k c Z₀ R₀ n₀ in
         let s₀ = (same_exactly (scheduled (effect k c)) k').0 s in
         record {
           sized = Z₀;
-          inside = limits_within (before k Z₀ R₀) (found-limits l);
+          inside = limits_within (before k Z₀ R₀) (found_limits l);
           rules = R₀;
           sixteen = record_size b;
-          small = record-bytes;
+          small = record_bytes;
           accepted = n₀;
           state = s₀;
           noted = ap (note_of k (call_bytes note)) (sym s₀) ∙ same_row_lem (note_of k (call_bytes note) (scheduled (effect k c))) note e;
@@ -218,15 +218,15 @@ module _ (log : List ℕ) (used : ℕ) where
 
   -- a last note that a state and a call yield is there, and is undone
   module _ {k k' : Kernel} {bytes : List ℕ} (Y : Yields k bytes k' (last_note log used)) where
-    pub yields-last : has_last log used ≡ true
-    yields-last =
+    pub yields_last : has_last log used ≡ true
+    yields_last =
         cases (has_last log used) (λ e. e)
         (λ e. let (low, _) = note_sizes k bytes k' Y.sixteen in
         let z = ap length (Y.noted ∙ last_none e) in absurd (omega arith))
 
-    pub yields-undoes : undoes k' log used ≡ true
+    pub yields_undoes : undoes k' log used ≡ true
     unfolding undoes
-    yields-undoes = rw yields-last (yields-undone k' (last_note log used) Y)
+    yields_undoes = rw yields_last (yields_undone k' (last_note log used) Y)
 
   -- There is something to undo exactly where an earlier state and a call yield k' with the log's last note [01, table: number 15].
   pub undo_exactly : (k' : Kernel) → Sized k' → Rules k' → Within k' → Bytes log
@@ -237,7 +237,7 @@ module _ (log : List ℕ) (used : ℕ) where
         let s = last_sizes a in (
           back_from k' (last_note log used),
           call_bytes (last_note log used),
-          undone-yields k' (last_note log used) Z R W (last_bytes B) (omega arith) b,
+          undone_yields k' (last_note log used) Z R W (last_bytes B) (omega arith) b,
         ),
-    λ y. yields-undoes y.2,
+    λ y. yields_undoes y.2,
   )

@@ -35,7 +35,7 @@ use Rattle.spec_notes.proofs.SameStates.{same_asked_lem}
 use Rattle.spec_notes.proofs.Unnoted.{threads_unnoted, semaphores_unnoted, events_unnoted, posts_unnoted, flags_unnoted}
 use Rattle.spec_notes.proofs.Limits.{limits_within}
 use Rattle.spec_notes.proofs.Yields.{yields_kept, yields_back}
-use Rattle.spec_notes.proofs.Undoing.{found-sized, found-limits, record_size, record-bytes, last_bytes, last_sizes}
+use Rattle.spec_notes.proofs.Undoing.{found_sized, found_limits, record_size, record_bytes, last_bytes, last_sizes}
 
 -- who isn't asked for has no section, and the call is of no kind that needs none
 none_there : (l : List ℕ) → not (is_empty l) ≡ false → l ≡ []
@@ -88,22 +88,22 @@ module _ (k' : Kernel) (note : List ℕ) (Z : Sized k') (R : Rules k') (W : With
   module _ (l : levels_fit k ≡ true) (r : keeps_rules k ≡ true) (n : number_of k c ≡ 0) (e : same_row (note_of k bytes next) note ≡ true) where
     again : Yields k bytes next note
     again =
-        let Z₀ = found-sized k' note Z R W B in
+        let Z₀ = found_sized k' note Z R W B in
         let R₀ = rules_mean k Z₀ r in
         record {
           sized = Z₀;
-          inside = limits_within (before k Z₀ R₀) (found-limits k' note Z R W B l);
+          inside = limits_within (before k Z₀ R₀) (found_limits k' note Z R W B l);
           rules = R₀;
           sixteen = record_size k' note Z R W B long;
-          small = record-bytes k' note Z R W B;
+          small = record_bytes k' note Z R W B;
           accepted = n;
           state = refl;
           noted = same_row_lem (note_of k bytes next) note e;
         }
 
-    asked-same : same_asked asked next k' ≡ same_kernel next k'
+    asked_same : same_asked asked next k' ≡ same_kernel next k'
     unfolding back_from
-    asked-same =
+    asked_same =
         let (Zₙ, Rₙ, _, _) = yields_kept again in
         let b : back_from next note ≡ k = yields_back again in
         same_asked_lem next k' (by_third (unasked next Zₙ Rₙ b) (unasked k' Z R refl))
@@ -116,7 +116,7 @@ module _ (k' : Kernel) (note : List ℕ) (Z : Sized k') (R : Rules k') (W : With
       (λ l. cases (keeps_rules k)
       (λ r. cases (eqb (number_of k c) 0)
       (λ n. cases (same_row (note_of k bytes next) note)
-      (λ e. rw (d, l, asked_rules, r, n, e, asked-same l r (eqb-true (number_of k c) 0 n) e, and-true))
+      (λ e. rw (d, l, asked_rules, r, n, e, asked_same l r (eqb-true (number_of k c) 0 n) e, and-true))
       (λ e. rw (d, l, asked_rules, r, n, e, and-false)))
       (λ n. rw (d, l, asked_rules, r, n)))
       (λ r. rw (d, l, asked_rules, r)))

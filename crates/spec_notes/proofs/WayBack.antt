@@ -23,11 +23,11 @@ use Rattle.spec_notes.specs.Within.{Within}
 use Rattle.spec_notes.specs.LeftAlone.{LeftAlone}
 use Rattle.base_rows.proofs.EntriesRead.{body_none}
 use Rattle.spec_notes.proofs.RowsBack.{Fit, field, unused, row_back}
-use Rattle.spec_notes.proofs.ThreadsBack.{threads-back, places-back, time-back}
-use Rattle.spec_notes.proofs.SemaphoresBack.{semaphores-back}
-use Rattle.spec_notes.proofs.EventsBack.{bits_back, events-back}
+use Rattle.spec_notes.proofs.ThreadsBack.{threads_back_lem, places-back, time-back}
+use Rattle.spec_notes.proofs.SemaphoresBack.{semaphores_back}
+use Rattle.spec_notes.proofs.EventsBack.{bits_back, events_back}
 use Rattle.spec_notes.proofs.FlagsBack.{flags_back}
-use Rattle.spec_notes.proofs.MessagesBack.{messages-back, posted-back}
+use Rattle.spec_notes.proofs.MessagesBack.{messages_back, posted_back}
 
 -- ---- the scheduler
 module _ (k : Kernel) (c : Call) (k' : Kernel) (W : Within k) where
@@ -62,13 +62,13 @@ module _ (k : Kernel) (c : Call) (k' : Kernel) (Z : Sized k) (Z' : Sized k') (R 
   unfolding before_at threads_back posts_back
   rest_back =
       λ i. record {
-        threads = threads-back k c k' Z R W Z' R' i;
-        semaphores = semaphores-back k c k' W Z Z' i;
-        events = events-back k c k' W Z Z' i;
-        messages = messages-back k c k' Z W Z' i;
+        threads = threads_back_lem k c k' Z R W Z' R' i;
+        semaphores = semaphores_back k c k' W Z Z' i;
+        events = events_back k c k' W Z Z' i;
+        messages = messages_back k c k' Z W Z' i;
         places = places-back k c k' Z R W Z' R' F i;
         time = time-back k c k' Z R W Z' R' F i;
-        posted = posted-back k c k' Z W Z' R R' F i;
+        posted = posted_back k c k' Z W Z' R R' F i;
         bits = bits_back k c k' F i;
         uptime = sym F.uptime i;
         unscheduled = k.unscheduled;

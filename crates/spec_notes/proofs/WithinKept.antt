@@ -12,7 +12,7 @@ use Rattle.spec_kernel.specs.declared.records.Kernel.{Kernel}
 use Rattle.spec_kernel.specs.Sizes.{semaphore_count, event_count, flag_count}
 use Rattle.spec_kernel.specs.Records.{thread, semaphore, event, message, no_thread, no_message}
 use Rattle.spec_kernel.specs.Places.{home, semaphore_queue}
-use Rattle.spec_kernel.proofs.LowestClear.{with-lowest}
+use Rattle.spec_kernel.proofs.LowestClear.{with_lowest}
 use Rattle.spec_kernel.specs.Truth.{is_true}
 use Rattle.spec_kernel.specs.Conditions.{of_flags, awaits}
 use Rattle.spec_moves.specs.Standing.{threads_of, Standing}
@@ -112,35 +112,35 @@ module _ {k : Kernel} (L : Limits k) where
       (λ e. rw e (file_limits L c.a _ (L.messages c.a)))
 
   module _ {c : Call} (X : CallWithin c) where
-    pend-semaphore-limits : Limits (pend_semaphore k c)
+    pend_semaphore_limits : Limits (pend_semaphore k c)
     unfolding pend_semaphore
-    pend-semaphore-limits =
+    pend_semaphore_limits =
         cases (ltb 0 (semaphore k c.a).count) (λ e. rw e (semaphore_limits L c.a _ (L.semaphores c.a)))
         (λ e. rw e (block_limits L _ c.c X.c))
 
-    pend-event-limits : Limits (pend_event k c)
+    pend_event_limits : Limits (pend_event k c)
     unfolding pend_event
-    pend-event-limits = cases (is_true k.bits (event k c.a)) (λ e. rw e L) (λ e. rw e (block_limits L _ c.c X.c))
+    pend_event_limits = cases (is_true k.bits (event k c.a)) (λ e. rw e L) (λ e. rw e (block_limits L _ c.c X.c))
 
-    pend-message-limits : Limits (pend_message k c)
+    pend_message_limits : Limits (pend_message k c)
     unfolding pend_message receive
-    pend-message-limits =
+    pend_message_limits =
         let m = next_message k c.b in
         cases (eqb m 255) (λ e. rw e (block_limits L _ c.c X.c)) (λ e. rw e (file_limits L m _ (L.messages m)))
 
     -- who wakes has no ticks left
-    post-flag-limits : Before k → Accepted k c → c.kind ≡ 34 → Limits (post_flag k c)
+    post_flag_limits : Before k → Accepted k c → c.kind ≡ 34 → Limits (post_flag k c)
     unfolding post_flag
-    post-flag-limits B A e =
+    post_flag_limits B A e =
         let (b, _) = live_flag k c.a (flag_named A e refl) in
         threads_limits L _
         (λ t. line_lasts SmallThread (λ _ _ _. omega arith) B.core.standing (home of_flags c.a) (λ z. omega arith) t (L.threads t))
 
-    effect-limits : Before k → Accepted k c → Limits (effect k c)
+    effect_limits : Before k → Accepted k c → Limits (effect k c)
     unfolding create_thread destroy_thread set_priority reset_priority yielded sleep push_unscheduled pop_unscheduled pop_all_unscheduled
         push_critical pop_critical pop_all_critical create_semaphore destroy_semaphore make_periodic remove_periodic post_semaphore load_event
         set_bit clear_bit create_message destroy_message create_flag destroy_flag pend_flag
-    effect-limits B A =
+    effect_limits B A =
         let S = B.core.standing in
         let (up, unscheduled, critical) = L.scheduler in
         let levels : (a b : ℕ) → a < 256 → b < 256 → Limits (with_levels a b k) = λ a b. scheduler_limits L k.uptime a b k.runner up in
@@ -165,23 +165,23 @@ module _ {k : Kernel} (L : Limits k) where
         ▸ (λ _. semaphore_limits L _ _ (omega arith))  -- 15
         ▸ (λ _. semaphore_limits L _ _ ((L.semaphores c.a).0, X.c, X.d))  -- 16
         ▸ (λ _. semaphore_limits L _ _ ((L.semaphores c.a).0, omega arith, omega arith))  -- 17
-        ▸ (λ _. pend-semaphore-limits)  -- 18
+        ▸ (λ _. pend_semaphore_limits)  -- 18
         ▸ (λ _. post_limits L c.a)  -- 19
         ▸ (λ _. worked_limits (events_limits L _ k.bits (event_all L c.a _ (X.c, X.d)) L.bits) S)  -- 20
-        ▸ (λ _. pend-event-limits)  -- 21
+        ▸ (λ _. pend_event_limits)  -- 21
         ▸ (λ _. bits _ (with_small k.bits c.a L.bits))  -- 22
         ▸ (λ _. bits _ (without_small k.bits c.a L.bits))  -- 23
         ▸ (λ _. file_limits L _ _ (X.b, X.c, X.d))  -- 24
         ▸ (λ _. file_limits L c.a no_message (omega arith))  -- 25
         ▸ (λ _. post_message_limits c)  -- 26
-        ▸ (λ _. pend-message-limits)  -- 27
+        ▸ (λ _. pend_message_limits)  -- 27
         ▸ (λ _. post_limits L c.a)  -- 28
         ▸ (λ _. bits _ (with_small k.bits c.a L.bits))  -- 29
         ▸ (λ _. bits _ (without_small k.bits c.a L.bits))  -- 30
-        ▸ (λ _. flags_limits L _ (with-lowest k.flags flag_count L.flags))  -- 31
+        ▸ (λ _. flags_limits L _ (with_lowest k.flags flag_count L.flags))  -- 31
         ▸ (λ _. flags_limits L _ (without_small k.flags c.a L.flags))  -- 32
         ▸ (λ _. block_limits (levels _ _ unscheduled (omega arith)) _ c.c X.c)  -- 33
-        ▸ post-flag-limits B A  -- 34
+        ▸ post_flag_limits B A  -- 34
         ▸ end
 
 scheduled_limits : {k : Kernel} → Limits k → Limits (scheduled k)
@@ -195,4 +195,4 @@ pub within_kept : (k : Kernel) (c : Call) → Sized k → Rules k → Within k �
 within_kept k c Z R W X h =
     let (Z', R') = rules_kept k c Z R h in
     limits_within (before (scheduled (effect k c)) Z' R')
-    (scheduled_limits (effect-limits (within_limits W) X (before k Z R) (accepted k c h)))
+    (scheduled_limits (effect_limits (within_limits W) X (before k Z R) (accepted k c h)))

@@ -3,7 +3,7 @@ use spec_kernel::records::{Message, Semaphore};
 
 // Of what a call names: the semaphore's and the message's record, whether the thread or the flag is live and whether the event is TRUE; the
 // first that waits for the semaphore or the flag; and the id that comes back. The bytes come last, so that there are no gaps.
-#[derive(Drop)]
+#[derive(Clone, Copy)]
 pub struct Named {
     pub semaphore: Semaphore,
     pub message: Message,

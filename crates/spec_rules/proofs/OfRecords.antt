@@ -11,7 +11,7 @@ use lib.Dec.{eqb, ltb, leb}
 use borrow.Author.Tests.{eqb-true, eqb-false, eq-eqb, ltb-true, ltb-false, lt-ltb, leb-true, le-leb, not-true}
 use borrow.Table.Steps.{cases}
 use Rattle.base_queue.specs.Lists.{every_from}
-use Rattle.base_queue.proofs.Lists.{every-at, every-intro}
+use Rattle.base_queue.proofs.Lists.{every_at, every_intro}
 use Rattle.base_bits.specs.Words.{bit_at}
 use Rattle.spec_kernel.specs.declared.records.Condition.{Condition}
 use Rattle.spec_kernel.specs.declared.records.Condition.TheVariants.{Ready, Asleep, ForSemaphore, ForEvent, ForMessage, ForFlag}
@@ -100,9 +100,9 @@ module _ {A : Type 0} (live test zeros : A → Bool) (none : A) (Live : A → Ty
 
   kept_exactly : (l : List A) → (every_from (λ _ r. passes r) 0 l ≡ true) ↔ ((i : ℕ) → Kept live none Live (get_or l i none))
   kept_exactly l = (
-    λ h i. cases (ltb i (length l)) (λ e. kept_means (get_or l i none) (every-at (λ _ r. passes r) none 0 l h i (ltb-true i (length l) e)))
+    λ h i. cases (ltb i (length l)) (λ e. kept_means (get_or l i none) (every_at (λ _ r. passes r) none 0 l h i (ltb-true i (length l) e)))
         (λ e. rw (get_or-eq_default l none (ltb-false i (length l) e)) none_kept),
-    λ K. every-intro (λ _ r. passes r) none 0 l (λ i _. kept_holds (get_or l i none) (K i)),
+    λ K. every_intro (λ _ r. passes r) none 0 l (λ i _. kept_holds (get_or l i none) (K i)),
   )
 
 -- ---- threads

@@ -29,14 +29,14 @@ module _ (k : Kernel) where
 
   -- nobody's home is below n: no list below n has a member
   module _ (n : ℕ) (from : (u : ℕ) → 0 < count u (items k.places) → n ≤ home u) where
-    line-none : (h : ℕ) → h < n → at_home k h ≡ []
-    line-none h b = nobody (at_home k h) λ u c.
+    line_none : (h : ℕ) → h < n → at_home k h ≡ []
+    line_none h b = nobody (at_home k h) λ u c.
         let (e, m) = kept (λ v. eqb (home v) h) (items k.places) c in omega (arith, eqb-true (home u) h e, from u m)
 
-    ready-none : (p m : ℕ) → p + m ≤ n → ready_from k p m ≡ []
+    ready_none : (p m : ℕ) → p + m ≤ n → ready_from k p m ≡ []
     unfolding ready_from
-    ready-none p zero b = refl
-    ready-none p (suc m) b = rw (line-none p (omega arith), ready-none (suc p) m (omega arith))
+    ready_none p zero b = refl
+    ready_none p (suc m) b = rw (line_none p (omega arith), ready_none (suc p) m (omega arith))
 
   -- the first place is first of the lists from p on, where its home is among them
   ready_first : (x : ℕ) (l : List ℕ) → items k.places ≡ x ∷ l → ((u : ℕ) → 0 < count u (items k.places) → home x ≤ home u)
@@ -46,7 +46,7 @@ module _ (k : Kernel) where
   ready_first x l e from p (suc m) b c =
       cases (eqb (home x) p) (λ f. rw (e, f))
       (λ f. let n = eqb-false (home x) p f in
-      rw (line-none (home x) from p (omega arith)) (ready_first x l e from (suc p) m (omega arith) (omega arith)))
+      rw (line_none (home x) from p (omega arith)) (ready_first x l e from (suc p) m (omega arith) (omega arith)))
 
   -- the first place, where it is in a ready list, is the first ready one
   pub first_place : ((t : ℕ) → Housed (thread k t)) → Ordered home (items k.places) → chosen k ≡ first_ready k
@@ -56,7 +56,7 @@ module _ (k : Kernel) where
       go : (l : List ℕ) → items k.places ≡ l
           → cond (ltb (home (first_of (items k.places))) 256) (first_of (items k.places)) 255 ≡ first_of (ready_from k 1 priority_count)
       go [] e =
-          rw (e, ready-none (suc priority_count) (λ u c. absurd (omega (arith, rw e at c))) 1 priority_count (omega arith))
+          rw (e, ready_none (suc priority_count) (λ u c. absurd (omega (arith, rw e at c))) 1 priority_count (omega arith))
           (cases (ltb (home 255) 256) (λ f. rw f) (λ f. rw f))
       go (x ∷ l) e =
           let after : Ordered home (x ∷ l) = rw e at o in
@@ -64,4 +64,4 @@ module _ (k : Kernel) where
           λ u c. ordered_low home {low = home x} (x ∷ l) (omega arith, after.1) u (rw e at c) in
           cases (ltb (home x) 256)
           (λ f. let (b, c) = (H x).low (ltb-true (home x) 256 f) in rw (e, f) (sym (ready_first x l e from 1 priority_count b (omega arith))))
-          (λ f. rw (e, f, ready-none (home x) from 1 priority_count (omega (arith, ltb-false))))
+          (λ f. rw (e, f, ready_none (home x) from 1 priority_count (omega (arith, ltb-false))))

@@ -27,7 +27,7 @@ use Rattle.spec_threads.proofs.LawsOfHomes.{Runnable}
 use Rattle.spec_laws.specs.OfThreads.{Woken}
 use Rattle.spec_laws.specs.OfSemaphores.{MadeSemaphore, PendedSemaphore, WokenBySemaphore, PostedSemaphore}
 use Rattle.spec_threads.proofs.LawsOfLists.{without_first}
-use Rattle.spec_threads.proofs.LawsOfHomes.{line-once, line_stopped}
+use Rattle.spec_threads.proofs.LawsOfHomes.{line_once, line_stopped}
 use Rattle.spec_threads.proofs.LawsOfWaking.{wake_wakes, wake_only}
 use Rattle.spec_threads.proofs.LawsOfBlocking.{block_blocks}
 use Rattle.spec_semaphores.specs.Semaphores.{create_semaphore, destroy_semaphore, make_periodic, remove_periodic}
@@ -57,18 +57,18 @@ module _ (k : Kernel) (c : Call) where
   create_makes b h = rw (mod-eq_of_lt h) (make_semaphore k (free_semaphore k) _ b)
 
   module _ (b : c.a < length k.semaphores) where
-    pub destroy-clears : MadeSemaphore c.a no_semaphore k (destroy_semaphore k c)
+    pub destroy_clears : MadeSemaphore c.a no_semaphore k (destroy_semaphore k c)
     unfolding destroy_semaphore
-    destroy-clears = make_semaphore k c.a no_semaphore b
+    destroy_clears = make_semaphore k c.a no_semaphore b
 
     -- The delay and the period given take the place of those that it has, if any [01, calls: Periodic 1].
-    pub make-replaces : MadeSemaphore c.a (pulsing c.c c.d (semaphore k c.a)) k (make_periodic k c)
+    pub make_replaces : MadeSemaphore c.a (pulsing c.c c.d (semaphore k c.a)) k (make_periodic k c)
     unfolding make_periodic
-    make-replaces = make_semaphore k c.a (pulsing c.c c.d (semaphore k c.a)) b
+    make_replaces = make_semaphore k c.a (pulsing c.c c.d (semaphore k c.a)) b
 
-    pub remove-clears : MadeSemaphore c.a (pulsing 0 0 (semaphore k c.a)) k (remove_periodic k c)
+    pub remove_clears : MadeSemaphore c.a (pulsing 0 0 (semaphore k c.a)) k (remove_periodic k c)
     unfolding remove_periodic
-    remove-clears = make_semaphore k c.a (pulsing 0 0 (semaphore k c.a)) b
+    remove_clears = make_semaphore k c.a (pulsing 0 0 (semaphore k c.a)) b
 
 -- ---- post
 module _ (k : Kernel) (i : ℕ) (S : Standing (threads_of k)) (bytes : (t : ℕ) → (thread k t).priority < 256)
@@ -85,7 +85,7 @@ module _ (k : Kernel) (i : ℕ) (S : Standing (threads_of k)) (bytes : (t : ℕ)
         woken = W;
         queue =
             W.queues (home of_semaphores i) (λ z. omega (arith, bytes t))
-            ∙ rw waits (without_first t l (rw waits at (line-once S t (home of_semaphores i))));
+            ∙ rw waits (without_first t l (rw waits at (line_once S t (home of_semaphores i))));
         only = wake_only Wake.Met t k;
       })
 

@@ -10,13 +10,13 @@ use Rattle.spec_kernel.specs.declared.records.Kernel.{Kernel}
 use Rattle.spec_kernel.specs.Records.{thread}
 use Rattle.spec_kernel.specs.Places.{nowhere, home_for}
 use Rattle.spec_moves.specs.Standing.{threads_of, Standing}
-use Rattle.spec_moves.proofs.Threads.{ready_home_lem, relocate_same, relocate_other, relocate-leaves}
+use Rattle.spec_moves.proofs.Threads.{ready_home_lem, relocate_same, relocate_other, relocate_leaves}
 use Rattle.spec_calls.specs.declared.call.Call.{Call}
 use Rattle.spec_threads.specs.Threads.{block, sleep}
 use Rattle.spec_laws.specs.Words.{stopped}
 use Rattle.spec_threads.proofs.LawsOfHomes.{Runnable}
 use Rattle.spec_threads.proofs.LawsOfHomes.{place_only, live_home, ready_live, live_id}
-use Rattle.spec_threads.proofs.LawsOfHomes.{line-without, time_stays, time_joins, line_joins}
+use Rattle.spec_threads.proofs.LawsOfHomes.{line_without, time_stays, time_joins, line_joins}
 use Rattle.spec_laws.specs.OfThreads.{is_lower, Blocked}
 
 module _ (k : Kernel) (S : Standing (threads_of k)) (R : Runnable (thread k k.runner)) (condition : Condition) (timeout : ℕ) where
@@ -31,9 +31,9 @@ module _ (k : Kernel) (S : Standing (threads_of k)) (R : Runnable (thread k k.ru
       let was = ready_home_lem (thread k t) R.ready in
       let is = live_home r l ∙ e in
       record {
-        left = relocate-leaves (threads_of k) t r S id (λ z. omega (arith, R.byte));
-        joined = λ ne. line_joins S t id r is ne ∙ ap (behind (is_lower k t) t) (line-without S t h (λ z. omega (arith, R.byte)));
-        lists = λ n a b. relocate-leaves (threads_of k) t r S id (λ z. b (z ∙ is)) ∙ line-without S t n (λ z. a (sym z ∙ was));
+        left = relocate_leaves (threads_of k) t r S id (λ z. omega (arith, R.byte));
+        joined = λ ne. line_joins S t id r is ne ∙ ap (behind (is_lower k t) t) (line_without S t h (λ z. omega (arith, R.byte)));
+        lists = λ n a b. relocate_leaves (threads_of k) t r S id (λ z. b (z ∙ is)) ∙ line_without S t n (λ z. a (sym z ∙ was));
         forever = λ z. ap items (time_stays (threads_of k) t r (R.untimed ∙ sym z));
         timed = λ z. time_joins S t id r R.untimed z;
         itself = relocate_same (threads_of k) t r S.count id;

@@ -18,7 +18,7 @@ use Rattle.spec_kernel.specs.Sizes.{thread_count}
 use Rattle.spec_kernel.specs.Records.{message, no_thread, no_message}
 use Rattle.spec_kernel.specs.Places.{home_of, on_channel, channel}
 use Rattle.spec_moves.specs.Standing.{threads_of, posts_of, Standing, Filed}
-use Rattle.spec_moves.proofs.Threads.{relocate_same, relocate_other, relocate-leaves}
+use Rattle.spec_moves.proofs.Threads.{relocate_same, relocate_other, relocate_leaves}
 use Rattle.spec_calls.specs.declared.call.Call.{Call}
 use Rattle.spec_threads.specs.Threads.{owns, freed_from, free_messages, destroy_thread}
 use Rattle.spec_threads.proofs.LawsOfLists.{keep_none}
@@ -81,7 +81,7 @@ unfolding destroy_thread free_messages home_of
 destroy_destroys k c S F id =
     let a = c.a in
     record {
-      lists = λ h b. relocate-leaves (threads_of k) a no_thread S id (λ z. omega arith);
+      lists = λ h b. relocate_leaves (threads_of k) a no_thread S id (λ z. omega arith);
       time = time_left S a id no_thread refl;
       itself = relocate_same (threads_of k) a no_thread S.count id;
       others = λ u ne. relocate_other (threads_of k) a no_thread ne;

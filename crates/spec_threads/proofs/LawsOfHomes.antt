@@ -24,7 +24,7 @@ use Rattle.spec_kernel.specs.Places.{nowhere, home_for, home_of, has_home, rank_
 use Rattle.spec_moves.specs.Moves.{thread_in, relocate}
 use Rattle.spec_moves.specs.Standing.{at_home_in, message_in, Standing, Filed}
 use Rattle.spec_moves.proofs.Rejoined.{Table, table-joins}
-use Rattle.spec_moves.proofs.Threads.{ready_home_lem, relocate_standing, relocate_same, relocate-joins, relocate_time_order}
+use Rattle.spec_moves.proofs.Threads.{ready_home_lem, relocate_standing, relocate_same, relocate_joins, relocate_time_order}
 use Rattle.spec_moves.specs.States.{move_thread}
 use Rattle.spec_laws.specs.Words.{OnlyThreads}
 use Rattle.spec_threads.proofs.LawsOfLists.{live_inside, keep_once, keep_missing, keep_absent, behind_same}
@@ -94,19 +94,19 @@ module _ {p : Threads} (S : Standing p) where
         omega (arith, (kept (λ u. eqb (home_of (thread_in p u)) h) (items p.places) c).1)
 
     -- who has another home does not stand there
-    pub line-absent : (home_of (thread_in p t) ≡ h → ⊥) → count t (at_home_in p h) ≡ 0
-    line-absent ne = rw (count_keep, ne_eqb (home_of (thread_in p t)) h ne)
+    pub line_absent : (home_of (thread_in p t) ≡ h → ⊥) → count t (at_home_in p h) ≡ 0
+    line_absent ne = rw (count_keep, ne_eqb (home_of (thread_in p t)) h ne)
 
-    pub line-without : (home_of (thread_in p t) ≡ h → ⊥) → without t (at_home_in p h) ≡ at_home_in p h
-    line-without ne = keep_missing (λ u. eqb (home_of (thread_in p u)) h) (items p.places) t (ne_eqb (home_of (thread_in p t)) h ne)
+    pub line_without : (home_of (thread_in p t) ≡ h → ⊥) → without t (at_home_in p h) ≡ at_home_in p h
+    line_without ne = keep_missing (λ u. eqb (home_of (thread_in p u)) h) (items p.places) t (ne_eqb (home_of (thread_in p t)) h ne)
 
     -- nor does who has none
-    pub line-nowhere : home_of (thread_in p t) ≡ nowhere → without t (at_home_in p h) ≡ at_home_in p h
-    line-nowhere e = keep_absent (λ u. eqb (home_of (thread_in p u)) h) (items p.places) t (S.placed t ∙ rw e)
+    pub line_nowhere : home_of (thread_in p t) ≡ nowhere → without t (at_home_in p h) ≡ at_home_in p h
+    line_nowhere e = keep_absent (λ u. eqb (home_of (thread_in p u)) h) (items p.places) t (S.placed t ∙ rw e)
 
     -- nobody stands there twice
-    pub line-once : count t (at_home_in p h) ≤ 1
-    line-once =
+    pub line_once : count t (at_home_in p h) ≤ 1
+    line_once =
         keep_once (λ u. eqb (home_of (thread_in p u)) h) (items p.places) t
         (placed_once (λ u. has_home (thread_in p u)) (items p.places) S.placed t)
 
@@ -186,7 +186,7 @@ module _ {p : Threads} (S : Standing p) (t : ℕ) (h : t < thread_count) (r : Th
   unfolding rank_of
   line_joins {n} e ne =
       rw (← e)
-      (relocate-joins p t r S h (rw (ne_eqb (home_of r) nowhere (λ z. ne (sym e ∙ z))))
+      (relocate_joins p t r S h (rw (ne_eqb (home_of r) nowhere (λ z. ne (sym e ∙ z))))
       ∙ behind_same t (without t (at_home_in p (home_of r)))
       (λ u c. let z = line_home S u (home_of r) (kept (is_not t) (at_home_in p (home_of r)) c).1 in
       rw z (ltb_shift (home_of r * 256) r.priority (thread_in p u).priority)))

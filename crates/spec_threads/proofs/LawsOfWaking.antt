@@ -19,20 +19,20 @@ use Rattle.spec_kernel.specs.Records.{thread}
 use Rattle.spec_kernel.specs.Places.{home_of}
 use Rattle.spec_moves.specs.Moves.{thread_in, relocate}
 use Rattle.spec_moves.specs.Standing.{threads_of, at_home_in, Standing}
-use Rattle.spec_moves.proofs.Threads.{ready_home_lem, relocate_standing, relocate_same, relocate_other, relocate-last, relocate-leaves}
+use Rattle.spec_moves.proofs.Threads.{ready_home_lem, relocate_standing, relocate_same, relocate_other, relocate_last, relocate_leaves}
 use Rattle.spec_moves.specs.States.{with_threads, each}
 use Rattle.spec_threads.specs.Threads.{wake}
 use Rattle.spec_laws.specs.Words.{without_all, readied, OnlyThreads}
 use Rattle.spec_threads.proofs.LawsOfHomes.{Stopped}
 use Rattle.spec_threads.proofs.LawsOfLists.{without_all_next}
-use Rattle.spec_threads.proofs.LawsOfHomes.{place_only, stopped_home, live_id, line-without, line-once, line_stopped, time_left}
+use Rattle.spec_threads.proofs.LawsOfHomes.{place_only, stopped_home, live_id, line_without, line_once, line_stopped, time_left}
 use Rattle.spec_laws.specs.OfThreads.{Woken}
 
 -- ---- one thread
 module _ {p : Threads} (S : Standing p) (t : ℕ) (W : Stopped (thread_in p t)) where
   -- who sleeps or waits is in no ready list
   pub stopped_list : {q : ℕ} → q < 256 → without t (at_home_in p q) ≡ at_home_in p q
-  stopped_list {q} b = line-without S t q (λ e. omega (arith, stopped_home (thread_in p t) W.live W.stopped))
+  stopped_list {q} b = line_without S t q (λ e. omega (arith, stopped_home (thread_in p t) W.live W.stopped))
 
   module _ (why : Wake) (reply : ℕ) where
     abbrev woken : Thread
@@ -41,31 +41,31 @@ module _ {p : Threads} (S : Standing p) (t : ℕ) (W : Stopped (thread_in p t)) 
     abbrev next : Threads
     next = relocate t woken p
 
-    woken-home : home_of woken ≡ (thread_in p t).priority
-    woken-home = ready_home_lem woken (rw W.live)
+    woken_home : home_of woken ≡ (thread_in p t).priority
+    woken_home = ready_home_lem woken (rw W.live)
 
-    pub woken-last : at_home_in next (thread_in p t).priority ≡ at_home_in p (thread_in p t).priority ++ t ∷ []
-    woken-last = relocate-last p t woken S (live_id S t W.live) woken-home W.byte ∙ rw (stopped_list W.byte)
+    pub woken_last : at_home_in next (thread_in p t).priority ≡ at_home_in p (thread_in p t).priority ++ t ∷ []
+    woken_last = relocate_last p t woken S (live_id S t W.live) woken_home W.byte ∙ rw (stopped_list W.byte)
 
-    pub woken-leaves : {h : ℕ} → (h ≡ (thread_in p t).priority → ⊥) → at_home_in next h ≡ without t (at_home_in p h)
-    woken-leaves ne = relocate-leaves p t woken S (live_id S t W.live) (λ e. ne (e ∙ woken-home))
+    pub woken_leaves : {h : ℕ} → (h ≡ (thread_in p t).priority → ⊥) → at_home_in next h ≡ without t (at_home_in p h)
+    woken_leaves ne = relocate_leaves p t woken S (live_id S t W.live) (λ e. ne (e ∙ woken_home))
 
-    pub woken-time : items next.time ≡ without t (items p.time)
-    woken-time = time_left S t (live_id S t W.live) woken refl
+    pub woken_time : items next.time ≡ without t (items p.time)
+    woken_time = time_left S t (live_id S t W.live) woken refl
 
-    pub woken-same : thread_in next t ≡ woken
-    woken-same = relocate_same p t woken S.count (live_id S t W.live)
+    pub woken_same : thread_in next t ≡ woken
+    woken_same = relocate_same p t woken S.count (live_id S t W.live)
 
 module _ (k : Kernel) (S : Standing (threads_of k)) (t : ℕ) (W : Stopped (thread k t)) (why : Wake) where
   -- a thread that gets a woken thread's record wakes, whatever else changes
   pub move_wakes : (reply : ℕ) (rest : Kernel)
       → Woken why reply t k (with_threads (relocate t (readied why reply (thread k t)) (threads_of k)) rest)
   move_wakes reply rest = record {
-    last = woken-last S t W why reply;
-    lists = λ p b ne. woken-leaves S t W why reply ne ∙ stopped_list S t W b;
-    queues = λ h ne. woken-leaves S t W why reply ne;
-    time = woken-time S t W why reply;
-    itself = woken-same S t W why reply;
+    last = woken_last S t W why reply;
+    lists = λ p b ne. woken_leaves S t W why reply ne ∙ stopped_list S t W b;
+    queues = λ h ne. woken_leaves S t W why reply ne;
+    time = woken_time S t W why reply;
+    itself = woken_same S t W why reply;
     others = λ u ne. relocate_other (threads_of k) t (readied why reply (thread k t)) ne;
   }
 
@@ -103,8 +103,8 @@ module _ (why : Thread → Wake) where
     abbrev first : Threads
     first = wakes why x p
 
-    first-stopped : Stopped (thread_in p x)
-    first-stopped = (C x (count_head x l)).1
+    first_stopped : Stopped (thread_in p x)
+    first_stopped = (C x (count_head x l)).1
 
     abbrev reason : Wake
     reason = why (thread_in p x)
@@ -113,56 +113,56 @@ module _ (why : Thread → Wake) where
     reply' = (thread_in p x).reply
 
     -- x stands first and nowhere else in l, so the rest of l are other threads, as they were
-    first-once : count x l ≡ 0
-    first-once = omega (arith, rw same at (C x (count_head x l)).0)
+    first_once : count x l ≡ 0
+    first_once = omega (arith, rw same at (C x (count_head x l)).0)
 
-    rest-other : (t : ℕ) → 0 < count t l → t ≡ x → ⊥
-    rest-other t c e = omega (arith, first-once, rw e at c)
+    rest_other : (t : ℕ) → 0 < count t l → t ≡ x → ⊥
+    rest_other t c e = omega (arith, first_once, rw e at c)
 
     other : {t : ℕ} → (t ≡ x → ⊥) → thread_in first t ≡ thread_in p t
     other ne = relocate_other p x (readied reason reply' (thread_in p x)) ne
 
-    rest-called : Called first l
-    rest-called t c =
-        let ne = rest-other t c in
+    rest_called : Called first l
+    rest_called t c =
+        let ne = rest_other t c in
         let (once, W) = C t (count_rest t x l c) in
         rw (other ne) (rw (ne_eqb x t (λ e. ne (sym e))) at once, W)
 
     -- the first wakes, then the rest
-    first-list : (q : ℕ) → q < 256 → at_home_in first q ≡ at_home_in p q ++ keep (λ t. eqb (thread_in p t).priority q) (x ∷ [])
-    first-list q b =
+    first_list : (q : ℕ) → q < 256 → at_home_in first q ≡ at_home_in p q ++ keep (λ t. eqb (thread_in p t).priority q) (x ∷ [])
+    first_list q b =
         cases (eqb (thread_in p x).priority q)
-        (λ e. rw (e, ← eqb-true (thread_in p x).priority q e) (woken-last S x first-stopped reason reply'))
+        (λ e. rw (e, ← eqb-true (thread_in p x).priority q e) (woken_last S x first_stopped reason reply'))
         (λ e. rw (e, append-nil)
-        (woken-leaves S x first-stopped reason reply' (λ z. eqb-false (thread_in p x).priority q e (sym z))
-        ∙ stopped_list S x first-stopped b))
+        (woken_leaves S x first_stopped reason reply' (λ z. eqb-false (thread_in p x).priority q e (sym z))
+        ∙ stopped_list S x first_stopped b))
 
     module _ {p' : Threads} (R : AllWoken why l first p') where
-      next-lists : (q : ℕ) → q < 256 → at_home_in p' q ≡ at_home_in p q ++ keep (λ t. eqb (thread_in p t).priority q) (x ∷ l)
-      next-lists q b =
+      next_lists : (q : ℕ) → q < 256 → at_home_in p' q ≡ at_home_in p q ++ keep (λ t. eqb (thread_in p t).priority q) (x ∷ l)
+      next_lists q b =
           let f : ℕ → Bool = λ t. eqb (thread_in p t).priority q in
           let z : keep (λ t. eqb (thread_in first t).priority q) l ≡ keep f l =
-          keep_same l (λ t c. ap (λ (r : Thread). eqb r.priority q) (other (rest-other t c))) in
-          R.lists q b ∙ rw (first-list q b, z, append_assoc, ← keep_append f (x ∷ []) l)
+          keep_same l (λ t c. ap (λ (r : Thread). eqb r.priority q) (other (rest_other t c))) in
+          R.lists q b ∙ rw (first_list q b, z, append_assoc, ← keep_append f (x ∷ []) l)
 
-      next-woken : (t : ℕ) → 0 < count t (x ∷ l) → thread_in p' t ≡ readied (why (thread_in p t)) (thread_in p t).reply (thread_in p t)
-      next-woken t c =
+      next_woken : (t : ℕ) → 0 < count t (x ∷ l) → thread_in p' t ≡ readied (why (thread_in p t)) (thread_in p t).reply (thread_in p t)
+      next_woken t c =
           cases (eqb x t)
-          (λ e. rw (← eqb-true x t e) (R.others x first-once ∙ woken-same S x first-stopped reason reply'))
+          (λ e. rw (← eqb-true x t e) (R.others x first_once ∙ woken_same S x first_stopped reason reply'))
           (λ e. rw (other {t = t} (λ z. eqb-false x t e (sym z))) at (R.woken t (rw e at c)))
 
-      next-others : (t : ℕ) → count t (x ∷ l) ≡ 0 → thread_in p' t ≡ thread_in p t
-      next-others t c =
+      next_others : (t : ℕ) → count t (x ∷ l) ≡ 0 → thread_in p' t ≡ thread_in p t
+      next_others t c =
           cases (eqb x t) (λ e. absurd (omega (arith, rw e at c)))
           (λ e. R.others t (rw e at c) ∙ other (λ z. eqb-false x t e (sym z)))
 
-      next-queues : (h : ℕ) → 256 ≤ h → at_home_in p' h ≡ without_all (x ∷ l) (at_home_in p h)
-      next-queues h b =
+      next_queues : (h : ℕ) → 256 ≤ h → at_home_in p' h ≡ without_all (x ∷ l) (at_home_in p h)
+      next_queues h b =
           R.queues h b
-          ∙ rw (woken-leaves S x first-stopped reason reply' {h = h} (λ z. omega (arith, first-stopped.byte)), without_all_next x l)
+          ∙ rw (woken_leaves S x first_stopped reason reply' {h = h} (λ z. omega (arith, first_stopped.byte)), without_all_next x l)
 
-      next-time : items p'.time ≡ without_all (x ∷ l) (items p.time)
-      next-time = R.time ∙ rw (woken-time S x first-stopped reason reply', without_all_next x l)
+      next_time : items p'.time ≡ without_all (x ∷ l) (items p.time)
+      next_time = R.time ∙ rw (woken_time S x first_stopped reason reply', without_all_next x l)
 
   -- so they all wake
   pub each_woken : (l : List ℕ) {p : Threads} → Standing p → Called p l → AllWoken why l p (each (wakes why) l p)
@@ -175,14 +175,14 @@ module _ (why : Thread → Wake) where
     others = λ t c. refl;
   }
   each_woken (x ∷ l) {p} S C =
-      let R = each_woken l (relocate_standing p x _ S) (rest-called S x l C) in
+      let R = each_woken l (relocate_standing p x _ S) (rest_called S x l C) in
       record {
         standing = R.standing;
-        lists = next-lists S x l C R;
-        queues = next-queues S x l C R;
-        time = next-time S x l C R;
-        woken = next-woken S x l C R;
-        others = next-others S x l C R;
+        lists = next_lists S x l C R;
+        queues = next_queues S x l C R;
+        time = next_time S x l C R;
+        woken = next_woken S x l C R;
+        others = next_others S x l C R;
       }
 
 -- ---- a queue
@@ -192,4 +192,4 @@ Bytes p = (t : ℕ) → (thread_in p t).priority < 256
 
 -- who stands in an object's queue stands there once, and waits
 pub line_called : {p : Threads} → Standing p → Bytes p → (h : ℕ) → 256 ≤ h → Called p (at_home_in p h)
-line_called S B h b t c = (omega (arith, line-once S t h), line_stopped S t (B t) b c)
+line_called S B h b t c = (omega (arith, line_once S t h), line_stopped S t (B t) b c)

@@ -18,7 +18,7 @@ use spec_kernel::records::{Condition, Event, Kernel, Message, Semaphore, Thread,
 use spec_kernel::sizes;
 
 // What a line changes: a kind of record with its id, or a table.
-#[derive(Drop)]
+#[derive(Clone, Copy)]
 struct Choice {
     kind: u8,
     id: usize,

@@ -3,7 +3,7 @@ ghost use Rattle.std.specs.Prelude.{◌≡◌};
 ghost use Rattle.try_entries.specs.Tallies.{outcome, tally, checked_by, numbered_by, counted_by};
 
 // The trials of one kind: those on a broken state, those refused for another reason, those accepted; and of all of them the wrong ones.
-#[derive(Drop)]
+#[derive(Clone, Copy)]
 pub struct Tally {
     pub broken: u64,
     pub refused: u64,
@@ -12,7 +12,7 @@ pub struct Tally {
 }
 
 // One trial: the number that came back, and whether all was right.
-#[derive(Drop)]
+#[derive(Clone, Copy)]
 pub struct Outcome {
     pub number: u8,
     pub right: bool,

@@ -34,7 +34,7 @@ use try_entries::tallies::{Outcome, Tally, checked, counted, ended, nothing};
 use try_entries::{again, entries, report};
 
 // The trials of all kinds.
-#[derive(Drop)]
+#[derive(Clone, Copy)]
 struct Harm {
     full: Tally,
     records: Tally,
@@ -45,7 +45,7 @@ struct Harm {
 }
 
 // Where a run stands.
-#[derive(Drop)]
+#[derive(Clone, Copy)]
 struct Run {
     kernel: Kernel,
     used: usize,
@@ -53,7 +53,7 @@ struct Run {
 }
 
 // Where the last note stands in the log.
-#[derive(Drop)]
+#[derive(Clone, Copy)]
 struct Note {
     from: usize,
     to: usize,

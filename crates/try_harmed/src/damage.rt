@@ -9,7 +9,7 @@ use spec_kernel::sizes;
 pub(crate) const FIELDS: u8 = 34;
 
 // One damage: the field's number, the id or place, and the value.
-#[derive(Drop)]
+#[derive(Clone, Copy)]
 struct Damage {
     field: u8,
     id: usize,

@@ -28,7 +28,7 @@ use try_entries::tallies::Tally;
 use try_entries::{again, entries, report, tallies};
 
 // The end of a trial: the number that came back, the used length after it, and whether all was right.
-#[derive(Drop)]
+#[derive(Clone, Copy)]
 struct Ending {
     number: u8,
     end: usize,
@@ -36,14 +36,14 @@ struct Ending {
 }
 
 // The trials on damaged states, and where the generator stands.
-#[derive(Drop)]
+#[derive(Clone, Copy)]
 struct Harm {
     states: Tally,
     dice: u64,
 }
 
 // Where a run stands: its state, how much of the log is used, its own records, and the trials.
-#[derive(Drop)]
+#[derive(Clone, Copy)]
 struct Run {
     kernel: Kernel,
     used: usize,

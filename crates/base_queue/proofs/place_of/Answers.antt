@@ -5,7 +5,7 @@ use native.Mathlib.Omega.{arith}
 use lib.ListN.{take, drop}
 use borrow.Author.Rules.{rules}
 use Rattle.base_queue.specs.Lists.{place_of}
-use Rattle.base_queue.proofs.Lists.{place_here, place-next, place_end}
+use Rattle.base_queue.proofs.Lists.{place_here, place_next, place_end}
 use Rattle.base_queue.proofs.Queues.{Walk, walk_start, sized_items}
 use Rattle.base_queue.proofs.place_of.Goals as goal
 
@@ -23,7 +23,7 @@ pub loop-i-preserved : goal.loop-i-preserved
 loop-i-preserved c =
     let a = c.args in
     let n : ℕ = c.size-n.result in
-    let p = place-next a.x a.q.at n c.loop-i.i (omega arith) (omega arith) c.if-at-i.false in
+    let p = place_next a.x a.q.at n c.loop-i.i (omega arith) (omega arith) c.if-at-i.false in
     omega arith
 
 pub returns : goal.returns

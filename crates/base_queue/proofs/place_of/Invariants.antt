@@ -5,7 +5,7 @@ use native.Mathlib.Omega.{arith}
 use lib.ListN.{take, drop}
 use borrow.Author.Rules.{rules}
 use Rattle.base_queue.specs.Lists.{place_of}
-use Rattle.base_queue.proofs.Lists.{place_here, place-next, place_end}
+use Rattle.base_queue.proofs.Lists.{place_here, place_next, place_end}
 use Rattle.base_queue.proofs.Queues.{Walk, walk_start, sized_items}
 use Rattle.base_queue.proofs.place_of.Given as goal
 

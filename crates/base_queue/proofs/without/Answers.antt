@@ -8,7 +8,7 @@ use borrow.Author.Rules.{rules}
 use borrow.Author.Tests.{eq-eqb, ne_eqb}
 use Rattle.base_queue.specs.Lists.{is_not, without}
 use Rattle.base_queue.specs.Queues.{pad}
-use Rattle.base_queue.proofs.Lists.{keep-next}
+use Rattle.base_queue.proofs.Lists.{keep_next}
 use Rattle.base_queue.proofs.Queues.{Walk, walk_start, sized_items, pad_push, queue_eq}
 use Rattle.base_queue.proofs.without.Goals as goal
 
@@ -20,14 +20,14 @@ loop-i-preserved-then-y-x c =
     let a = c.args in
     let l = c.loop-i in
     let w : List ℕ = without a.x (take l.i a.q.at) in
-    let e = rw (ne_eqb _ _ c.if-y-x.true) at (keep-next (is_not a.x) 0 a.q.at l.i (omega arith)) in
+    let e = rw (ne_eqb _ _ c.if-y-x.true) at (keep_next (is_not a.x) 0 a.q.at l.i (omega arith)) in
     (omega arith, omega arith, rw (e, length-append) (omega arith), rw (e, l.invariant.3) (pad_push w l.k _ (sym l.invariant.2) (omega arith)))
 
 pub loop-i-preserved : goal.loop-i-preserved
 loop-i-preserved c =
     let a = c.args in
     let l = c.loop-i in
-    let e = rw (eq-eqb _ _ c.if-y-x.false) at (keep-next (is_not a.x) 0 a.q.at l.i (omega arith)) in
+    let e = rw (eq-eqb _ _ c.if-y-x.false) at (keep_next (is_not a.x) 0 a.q.at l.i (omega arith)) in
     (omega arith, omega arith, rw (e, append-nil) l.invariant.2, rw (e, append-nil) l.invariant.3)
 
 pub returns : goal.returns

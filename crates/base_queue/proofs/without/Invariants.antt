@@ -8,7 +8,7 @@ use borrow.Author.Rules.{rules}
 use borrow.Author.Tests.{eq-eqb, ne_eqb}
 use Rattle.base_queue.specs.Lists.{is_not, without}
 use Rattle.base_queue.specs.Queues.{pad}
-use Rattle.base_queue.proofs.Lists.{keep-next}
+use Rattle.base_queue.proofs.Lists.{keep_next}
 use Rattle.base_queue.proofs.Queues.{Walk, walk_start, sized_items, pad_push, queue_eq}
 use Rattle.base_queue.proofs.without.Given as goal
 

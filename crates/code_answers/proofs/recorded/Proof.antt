@@ -14,7 +14,7 @@ use Rattle.spec_calls.specs.Calls.{call_of}
 use Rattle.spec_refusals.specs.Refusals.{number_of}
 use Rattle.spec_refusals.specs.declared.named.Named.{Named}
 use Rattle.spec_notes.specs.Notes.{before_length, note_of, longest_note}
-use Rattle.code_notes.proofs.BeforeLength.{note-closed, note_short}
+use Rattle.code_notes.proofs.BeforeLength.{note_closed, note_short}
 use Rattle.code_notes.proofs.Sizes.{composed}
 use Rattle.spec_answers.specs.declared.Answer.{Answer}
 use Rattle.spec_answers.specs.declared.Logged.{Logged}
@@ -180,7 +180,7 @@ composed_note c =
     let sixteen : length (record-bytes m) ≡ 16 = (number-of m).before.before.before.before.good.1.0.1.0.1 in
     let room : longest_note ≤ length {A = ℕ} (replicate longest_note 0) = rw length-replicate (omega arith) in
     let e =
-    note-closed (kernel m) (record-bytes m) (next m) sixteen (replicate longest_note 0) _ _ _ room (sections m) c.put-end.ensures in
+    note_closed (kernel m) (record-bytes m) (next m) sixteen (replicate longest_note 0) _ _ _ room (sections m) c.put-end.ensures in
     let short = note_short (kernel m) (record-bytes m) (next m) sixteen in
     let w = composed (replicate longest_note 0) _ _ _ e (rw length-replicate (omega (arith, short))) in
     (w.0, w.1)

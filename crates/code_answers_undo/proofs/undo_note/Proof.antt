@@ -17,7 +17,7 @@ use Rattle.code_notes_back.specs.Restored.{back_of}
 use Rattle.code_notes_frame.proofs.Framing.{record_whole}
 use Rattle.spec_answers.specs.Steps.{answer}
 use Rattle.spec_answers.specs.Logs.{logged}
-use Rattle.code_answers_undo.proofs.Again.{note_none, framed-size, asked, asked_by_lem, left_other, left-unfit, left_back, back_parts}
+use Rattle.code_answers_undo.proofs.Again.{note_none, framed_size, asked, asked_by_lem, left_other, left_unfit, left_back, back_parts}
 use borrow.Author.Rules.{rules}
 use Rattle.code_answers_undo.proofs.undo_note.Statement.{statement}
 use Rattle.code_answers_undo.proofs.undo_note.Tie as tie
@@ -73,7 +73,7 @@ framed c = sym c.before.before.frames-of.ensures.1 ∙ ap (λ (d : Decoded). mea
 -- the call record
 record_read : (c : tie.After-call-bytes) → c.call-bytes.result ≡ call_bytes (note₀ c.before.before)
 record_read c =
-    let f = c.before.before in c.call-bytes.ensures ∙ record_whole (note₀ f) (framed-size (k₀ f) (note₀ f) (parts f) (framed f))
+    let f = c.before.before in c.call-bytes.ensures ∙ record_whole (note₀ f) (framed_size (k₀ f) (note₀ f) (parts f) (framed f))
 
 -- what is read back, where its levels fit
 abbrev framed_of : tie.After-state-before → tie.After-p
@@ -127,7 +127,7 @@ returns-2 c =
     let f = framed_of r in
     let a = f.before.before.before.before.args in
     c.refused2.ensures
-    ∙ left-unfit a.k (note₀ f) (parts f) (framed f) a.before a.used
+    ∙ left_unfit a.k (note₀ f) (parts f) (framed f) a.before a.used
     (sym (state_read r).0 ∙ not-true r.state-before.result.fits c.before.if1.true)
 
 asked-by-requires : tie.Need-asked-by-requires

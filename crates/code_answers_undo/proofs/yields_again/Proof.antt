@@ -15,8 +15,8 @@ use Rattle.spec_calls.specs.Calls.{call_of}
 use Rattle.spec_refusals.specs.Refusals.{number_of}
 use Rattle.spec_notes.specs.Touched.{same_row}
 use Rattle.spec_answers.specs.Logs.{state_after, note_for}
-use Rattle.code_answers_undo.proofs.Again.{run_refused, run-accepted, run-next, note-stands}
-use Rattle.code_answers_undo.proofs.Again.{again-broken, again-refused, again-other, again-same}
+use Rattle.code_answers_undo.proofs.Again.{run_refused, run_accepted, run_next, note_stands}
+use Rattle.code_answers_undo.proofs.Again.{again_broken, again_refused, again-other, again-same}
 use Rattle.spec_notes.proofs.Compared.{begins_same, other_length_lem}
 use Rattle.code_answers_undo.proofs.yields_again.Statement.{statement}
 use Rattle.code_answers_undo.proofs.yields_again.Tie as tie
@@ -28,7 +28,7 @@ returns : tie.Need-returns
 returns c = λ l.
     let a = c.before.before.before.args in
     let t = c.before.keeps-asked in
-    again-broken a.asked a.old a.bytes a.end a.note.now l
+    again_broken a.asked a.old a.bytes a.end a.note.now l
     (sym t.ensures ∙ not-true t.result c.if1.true)
 
 slice-aggregate-recorded : tie.Need-slice-aggregate-recorded
@@ -62,7 +62,7 @@ sixteen c = c.before.before.before.before.before.well-formed.1.0.1.0.1
 returns-2 : tie.Need-returns-2
 returns-2 c = λ l.
     let d : tie.After-recorded = c.before.before.before in
-    again-refused (asked₀ d) (old₀ d) (bytes₀ d) (end₀ d) (note₀ d) l (rules d)
+    again_refused (asked₀ d) (old₀ d) (bytes₀ d) (end₀ d) (note₀ d) l (rules d)
     (run_refused (old₀ d) (bytes₀ d) (sixteen d) _ d.recorded.ensures.result c.if2.true)
 
 -- where it answers 0: it was accepted, the next state, and that the note stands in front
@@ -73,9 +73,9 @@ ran : (c : tie.After-recorded) → c.recorded.result.answer.number ≡ 0
     × (take l.used c.recorded.new.1.1.0 ≡ note_for (old₀ c) (bytes₀ c)) × (l.used ≡ length (note_for (old₀ c) (bytes₀ c)))
 ran c z =
     let e = c.recorded.ensures in
-    let (x, y, w) = note-stands (old₀ c) (bytes₀ c) (sixteen c) _ e.result z _ e.written in (
-      (run-accepted (old₀ c) (bytes₀ c) (sixteen c) _ e.result z).0,
-      run-next (old₀ c) (bytes₀ c) (sixteen c) _ e.result z,
+    let (x, y, w) = note_stands (old₀ c) (bytes₀ c) (sixteen c) _ e.result z _ e.written in (
+      (run_accepted (old₀ c) (bytes₀ c) (sixteen c) _ e.result z).0,
+      run_next (old₀ c) (bytes₀ c) (sixteen c) _ e.result z,
       x,
       y,
       w,

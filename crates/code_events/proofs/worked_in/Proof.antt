@@ -5,7 +5,7 @@ use native.Mathlib.Omega.{arith}
 use borrow.Author.Rules.{rules}
 use Rattle.spec_kernel.specs.Sizes.{event_count}
 use Rattle.spec_events.specs.Events.{work_out_from}
-use Rattle.code_events.proofs.Works.{work-true, work-false}
+use Rattle.code_events.proofs.Works.{work_true, work_false}
 use Rattle.code_events.proofs.worked_in.Statement.{statement}
 use Rattle.code_events.proofs.worked_in.Tie as tie
 
@@ -48,7 +48,7 @@ loop-again c =
     let l = c.before.before.before.before.before.loop in (
       omega arith,
       rw c.woken-in.ensures
-          (work-true _ _ l.i _ l.invariant.1 (sym c.before.before.wakes.ensures ∙ c.before.if1.true)),
+          (work_true _ _ l.i _ l.invariant.1 (sym c.before.before.wakes.ensures ∙ c.before.if1.true)),
     )
 
 loop-less-2 : tie.Need-loop-smaller-2 invariant-loop decreases-loop
@@ -57,7 +57,7 @@ loop-less-2 c = search rules
 loop-again-2 : tie.Need-loop-preserved-2 invariant-loop decreases-loop
 loop-again-2 c =
     let l = c.before.before.before.before.loop in
-    (omega arith, work-false _ _ l.i _ l.invariant.1 (sym c.before.wakes.ensures ∙ c.if1.false))
+    (omega arith, work_false _ _ l.i _ l.invariant.1 (sym c.before.wakes.ensures ∙ c.if1.false))
 
 returns : tie.Need-returns invariant-loop decreases-loop
 returns c =

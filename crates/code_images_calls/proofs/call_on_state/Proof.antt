@@ -17,10 +17,10 @@ use Rattle.spec_answers.specs.declared.Logged.{Logged}
 use Rattle.spec_answers.specs.Steps.{answer}
 use Rattle.spec_answers.specs.Logs.{state_after, note_for}
 use Rattle.spec_answers.proofs.FromTypes.{is_record}
-use Rattle.code_answers_undo.proofs.Again.{run_refused, run-accepted, run-next, note-stands}
+use Rattle.code_answers_undo.proofs.Again.{run_refused, run_accepted, run_next, note_stands}
 use Rattle.code_images.proofs.ImageWritten.{fits_none, fits_some}
 use Rattle.spec_images.specs.Images.{image_of}
-use Rattle.code_images_calls.proofs.OnStates.{left_refused, left-note, left-image, both-kept, ends_behind, stored_by}
+use Rattle.code_images_calls.proofs.OnStates.{left_refused, left_note, left_image, both_kept, ends_behind, stored_by}
 use Rattle.code_images_calls.proofs.call_on_state.Statement.{statement}
 use Rattle.code_images_calls.proofs.call_on_state.Tie as tie
 
@@ -58,18 +58,18 @@ module _ (c : tie.After-recorded) (z : c.recorded.result.answer.number ≡ 0) wh
   s = c.recorded.result
 
   accepted : number_of (k₀ c) (call_of (bytes₀ c)) ≡ 0
-  accepted = (run-accepted (k₀ c) (bytes₀ c) (sixteen c) _ c.recorded.ensures.result z).0
+  accepted = (run_accepted (k₀ c) (bytes₀ c) (sixteen c) _ c.recorded.ensures.result z).0
 
   answered : s.answer ≡ answer 0 (value_of (k₀ c) (call_of (bytes₀ c))) (state_after (k₀ c) (bytes₀ c)).runner
-  answered = ap (λ (x : Logged). x.answer) (run-accepted (k₀ c) (bytes₀ c) (sixteen c) _ c.recorded.ensures.result z).1
+  answered = ap (λ (x : Logged). x.answer) (run_accepted (k₀ c) (bytes₀ c) (sixteen c) _ c.recorded.ensures.result z).1
 
   next_is : s.kernel ≡ state_after (k₀ c) (bytes₀ c)
-  next_is = run-next (k₀ c) (bytes₀ c) (sixteen c) _ c.recorded.ensures.result z
+  next_is = run_next (k₀ c) (bytes₀ c) (sixteen c) _ c.recorded.ensures.result z
 
   stands : (s.used ≤ length c.recorded.new.1.1.0) × (take s.used c.recorded.new.1.1.0 ≡ note_for (k₀ c) (bytes₀ c))
       × (s.used ≡ length (note_for (k₀ c) (bytes₀ c)))
   stands =
-      note-stands (k₀ c) (bytes₀ c) (sixteen c) _ c.recorded.ensures.result z _ c.recorded.ensures.written
+      note_stands (k₀ c) (bytes₀ c) (sixteen c) _ c.recorded.ensures.result z _ c.recorded.ensures.written
 
 zero_at : (c : tie.After-has-room) → (run_of c).recorded.result.answer.number ≡ 0
 zero_at c = c.before.before.if1.false
@@ -116,7 +116,7 @@ returns-2 c =
     let d = run_of t in
     let a = (start_of d).args in
     let (x, y, l) =
-    left-note (k₀ d) (bytes₀ d) (log₀ d) a.used (lent₀ d) a.length (accepted d (zero_at t))
+    left_note (k₀ d) (bytes₀ d) (log₀ d) a.used (lent₀ d) a.length (accepted d (zero_at t))
     (room_is t ∙ not-true t.has_room.result c.before.if2.true) in
     (c.no_room.ensures ∙ x, y, l)
 
@@ -151,7 +151,7 @@ returns-3 c =
     let d = run_of (room_of w) in
     let a = (start_of d).args in
     let (x, y, l) =
-    left-image (k₀ d) (bytes₀ d) (log₀ d) a.used (lent₀ d) a.length (accepted d (zero_at (room_of w)))
+    left_image (k₀ d) (bytes₀ d) (log₀ d) a.used (lent₀ d) a.length (accepted d (zero_at (room_of w)))
     (fits_none (state_after (k₀ d) (bytes₀ d)) (lent₀ d) (sym (size_is w) ∙ c.before.if3.true)) in
     (c.no-room2.ensures ∙ x, lent_then w ∙ y, l)
 
@@ -189,7 +189,7 @@ returns-4 c =
     let next = state_after (k₀ d) (bytes₀ d) in
     let b : room (log₀ d) a.used note ≡ true = room_is t ∙ not-false t.has_room.result w.before.before.before.if2.left in
     let (f, n) = fits_some next (lent₀ d) (λ h. v.before.before.before.if3.false (size_is w ∙ h)) in
-    let (x, y, l) = both-kept (k₀ d) (bytes₀ d) (log₀ d) a.used (lent₀ d) a.length (accepted d z) b f in
+    let (x, y, l) = both_kept (k₀ d) (bytes₀ d) (log₀ d) a.used (lent₀ d) a.length (accepted d z) b f in
     let (_, h, _) = stands d z in
     let written = v.write.ensures.0 ∙ ap (noted (log₀ d) a.used) h in
     let end = v.write.ensures.1 ∙ ap (ends (log₀ d) a.used) h ∙ ends_behind (log₀ d) a.used note b in

@@ -3,7 +3,7 @@ use mathlib.Core.Path.{◌∙◌}
 use native.Mathlib.Omega.{arith}
 use borrow.Author.Rules.{rules}
 use Rattle.spec_notes.specs.Within.{AreBytes}
-use Rattle.code_images_calls.proofs.Found.{not-read, was_read, call-damaged, call-found}
+use Rattle.code_images_calls.proofs.Found.{not_read, was_read, call_damaged, call_found}
 use Rattle.code_images_calls.proofs.called_on.Statement.{statement}
 use Rattle.code_images_calls.proofs.called_on.Tie as tie
 
@@ -25,8 +25,8 @@ returns c =
     let d : tie.After-read-at = c.before.before.before in
     let a = (start_of d).args in
     let (x, y, l) =
-    call-damaged a.room.now a.length a.bytes a.log.now a.used
-    (not-read a.room.now a.length _ d.read_at.ensures c.before.if1.true) in
+    call_damaged a.room.now a.length a.bytes a.log.now a.used
+    (not_read a.room.now a.length _ d.read_at.ensures c.before.if1.true) in
     (c.damaged.ensures ∙ x, y, l)
 
 call-on-state-requires : tie.Need-call-on-state-requires
@@ -45,7 +45,7 @@ returns-2 c =
     let a = (start_of d).args in
     let b : AreBytes a.room.now = λ i. omega (arith, d.before.before.before.slice-known.given i) in
     let (h, f) = was_read a.room.now a.length _ d.read_at.ensures w.before.before.before.before.if1.false in
-    let (x, y, l) = call-found a.room.now a.length a.bytes a.log.now a.used b h _ f in
+    let (x, y, l) = call_found a.room.now a.length a.bytes a.log.now a.used b h _ f in
     let e = w.call-on-state.ensures in
     (e.0 ∙ x, e.1 ∙ y, e.2 ∙ l)
 

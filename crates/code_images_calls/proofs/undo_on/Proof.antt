@@ -3,7 +3,7 @@ use mathlib.Core.Path.{◌∙◌}
 use native.Mathlib.Omega.{arith}
 use borrow.Author.Rules.{rules}
 use Rattle.spec_notes.specs.Within.{AreBytes}
-use Rattle.code_images_calls.proofs.Found.{not-read, was_read, undo-damaged, undo-found}
+use Rattle.code_images_calls.proofs.Found.{not_read, was_read, undo_damaged, undo_found}
 use Rattle.code_images_calls.proofs.undo_on.Statement.{statement}
 use Rattle.code_images_calls.proofs.undo_on.Tie as tie
 
@@ -25,8 +25,8 @@ returns c =
     let d : tie.After-read-at = c.before.before.before in
     let a = (start_of d).args in
     let (x, y) =
-    undo-damaged a.room.now a.length a.log.now a.used
-    (not-read a.room.now a.length _ d.read_at.ensures c.before.if1.true) in
+    undo_damaged a.room.now a.length a.log.now a.used
+    (not_read a.room.now a.length _ d.read_at.ensures c.before.if1.true) in
     (c.damaged.ensures ∙ x, y)
 
 undo-on-state-requires : tie.Need-undo-on-state-requires
@@ -43,7 +43,7 @@ returns-2 c =
     let b : AreBytes a.room.now = λ i. omega (arith, d.before.before.before.slice-known.given i) in
     let g : AreBytes a.log.now = λ i. omega (arith, d.before.before.shared-slice-known.given i) in
     let (h, f) = was_read a.room.now a.length _ d.read_at.ensures w.before.before.before.if1.false in
-    let (x, y) = undo-found a.room.now a.length a.log.now a.used b g h _ f in
+    let (x, y) = undo_found a.room.now a.length a.log.now a.used b g h _ f in
     let e = w.undo-on-state.ensures in
     (e.0 ∙ x, e.1 ∙ y)
 

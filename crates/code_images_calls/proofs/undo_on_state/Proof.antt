@@ -3,7 +3,7 @@ use mathlib.Core.Path.{sym, ap, ◌∙◌}
 use borrow.Author.Rules.{rules}
 use Rattle.spec_images.specs.OnImages.{stored}
 use Rattle.code_images.proofs.ImageWritten.{fits_none, fits_some}
-use Rattle.code_images_calls.proofs.Found.{kept_refused, kept-short, kept_new}
+use Rattle.code_images_calls.proofs.Found.{kept_refused, kept_short, kept_new}
 use Rattle.code_images_calls.proofs.undo_on_state.Statement.{statement}
 use Rattle.code_images_calls.proofs.undo_on_state.Tie as tie
 
@@ -36,7 +36,7 @@ returns-2 c =
     let u = w.before.before.before.before.before.undo-kept in
     let e = w.put_whole.ensures in
     let (x, y) =
-    kept-short u.result a.k a.room.now a.length a.used w.before.before.before.if1.false
+    kept_short u.result a.k a.room.now a.length a.used w.before.before.before.if1.false
     (fits_none u.result.kernel a.room.now (sym e.0 ∙ c.before.if2.true)) in
     rw (← u.ensures.result) (c.no_room.ensures ∙ x, e.1 ∙ y)
 

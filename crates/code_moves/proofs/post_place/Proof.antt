@@ -10,7 +10,7 @@ use Rattle.base_queue.specs.Queues.{capacity}
 use Rattle.spec_kernel.specs.Sizes.{message_count}
 use Rattle.spec_kernel.specs.Records.{no_message}
 use Rattle.spec_kernel.specs.Places.{stream_of}
-use Rattle.code_moves.proofs.Seeking.{value_at, value_past, Seeks, seeks_starts, seeks-stops, seeks-goes, seeks-ends}
+use Rattle.code_moves.proofs.Seeking.{value_at, value_past, Seeks, seeks_starts, seeks_stops, seeks_goes, seeks_ends}
 use Rattle.code_moves.proofs.post_place.Statement.{statement}
 use Rattle.code_moves.proofs.post_place.Tie as tie
 
@@ -63,7 +63,7 @@ stream-of-requires c κs = search rules
 returns : tie.Need-returns invariant-loop decreases-loop
 returns c =
     let l = loop-of c.before in
-    seeks-stops (start l).args.q l.before.size.ensures l.loop.inv (meets c.before) (omega arith) (omega arith)
+    seeks_stops (start l).args.q l.before.size.ensures l.loop.inv (meets c.before) (omega arith) (omega arith)
 
 add-i : tie.Need-overflow-add-i invariant-loop decreases-loop
 add-i c = search rules
@@ -74,12 +74,12 @@ loop-less c = search rules
 loop-again : tie.Need-loop-preserved invariant-loop decreases-loop
 loop-again c =
     let l = loop-of c.before in
-    seeks-goes (start l).args.q l.before.size.ensures l.loop.inv (meets c.before) (omega arith) (omega arith)
+    seeks_goes (start l).args.q l.before.size.ensures l.loop.inv (meets c.before) (omega arith) (omega arith)
 
 returns-2 : tie.Need-returns-2 invariant-loop decreases-loop
 returns-2 c =
     let l = c.before in
-    seeks-ends (start l).args.q l.before.size.ensures l.loop.invariant (omega arith)
+    seeks_ends (start l).args.q l.before.size.ensures l.loop.invariant (omega arith)
 
 pub post_place_spec : {M : Type 1} → statement M
 post_place_spec =

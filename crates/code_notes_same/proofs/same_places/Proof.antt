@@ -7,7 +7,7 @@ use lib.ListN.{length}
 use borrow.Author.Rules.{rules}
 use borrow.Author.Tests.{eq-eqb, ne_eqb}
 use Rattle.base_queue.specs.Queues.{capacity}
-use Rattle.code_notes_same.proofs.Pairs.{Pairs, pairs_start, pairs-stop, pairs-go, pairs_end, row_all}
+use Rattle.code_notes_same.proofs.Pairs.{Pairs, pairs_start, pairs_stop, pairs_go, pairs_end, row_all}
 use Rattle.code_notes_same.proofs.same_places.Statement.{statement}
 use Rattle.code_notes_same.proofs.same_places.Tie as tie
 
@@ -33,7 +33,7 @@ returns : tie.Need-returns invariant-loop decreases-loop
 returns c =
     let l = c.before.before.loop in
     let a = c.before.before.before.args in
-    rw row_all (pairs-stop eqb 0 a.t1 a.t2 l.i l.invariant (omega arith) (ne_eqb _ _ c.if1.true))
+    rw row_all (pairs_stop eqb 0 a.t1 a.t2 l.i l.invariant (omega arith) (ne_eqb _ _ c.if1.true))
 
 add-i : tie.Need-overflow-add-i invariant-loop decreases-loop
 add-i c = search rules
@@ -45,7 +45,7 @@ loop-again : tie.Need-loop-preserved invariant-loop decreases-loop
 loop-again c =
     let l = c.before.before.loop in
     let a = c.before.before.before.args in
-    pairs-go eqb 0 a.t1 a.t2 l.i l.invariant (omega arith) (eq-eqb _ _ c.if1.false)
+    pairs_go eqb 0 a.t1 a.t2 l.i l.invariant (omega arith) (eq-eqb _ _ c.if1.false)
 
 returns-2 : tie.Need-returns-2 invariant-loop decreases-loop
 returns-2 c =

@@ -8,7 +8,7 @@ use Rattle.spec_kernel.specs.Sizes.{thread_count}
 use Rattle.spec_kernel.specs.Records.{no_thread}
 use Rattle.code_rules_records.proofs.Answers.{refused, passed}
 use Rattle.spec_notes.specs.Touched.{same_thread}
-use Rattle.code_notes_same.proofs.Pairs.{Pairs, pairs_start, pairs-stop, pairs-go, pairs_end}
+use Rattle.code_notes_same.proofs.Pairs.{Pairs, pairs_start, pairs_stop, pairs_go, pairs_end}
 use Rattle.code_notes_same.proofs.same_threads.Statement.{statement}
 use Rattle.code_notes_same.proofs.same_threads.Tie as tie
 
@@ -43,7 +43,7 @@ returns : tie.Need-returns invariant-loop decreases-loop
 returns c =
     let l = c.before.before.before.before.before.loop in
     let a = c.before.before.before.before.before.before.args in
-    pairs-stop same_thread no_thread a.t1 a.t2 l.i l.invariant (omega arith) (refused c.before.same.ensures c.if1.true)
+    pairs_stop same_thread no_thread a.t1 a.t2 l.i l.invariant (omega arith) (refused c.before.same.ensures c.if1.true)
 
 add-i : tie.Need-overflow-add-i invariant-loop decreases-loop
 add-i c = search rules
@@ -55,7 +55,7 @@ loop-again : tie.Need-loop-preserved invariant-loop decreases-loop
 loop-again c =
     let l = c.before.before.before.before.before.loop in
     let a = c.before.before.before.before.before.before.args in
-    pairs-go same_thread no_thread a.t1 a.t2 l.i l.invariant (omega arith) (passed c.before.same.ensures c.if1.false)
+    pairs_go same_thread no_thread a.t1 a.t2 l.i l.invariant (omega arith) (passed c.before.same.ensures c.if1.false)
 
 returns-2 : tie.Need-returns-2 invariant-loop decreases-loop
 returns-2 c =

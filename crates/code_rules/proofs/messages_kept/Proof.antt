@@ -6,7 +6,7 @@ use Rattle.spec_rules.specs.declared.tests.Asked.{Asked}
 use Rattle.spec_rules.specs.Tests.{messages_kept, if_asked, owners_asked}
 use Rattle.code_rules_records.proofs.Answers.{refused, passed}
 use Rattle.code_rules_records.proofs.Runs.{stops, goes, ends}
-use Rattle.code_rules.proofs.Parts.{messages-part, posted-part, no_owners}
+use Rattle.code_rules.proofs.Parts.{messages_part, posted_part, no_owners}
 use Rattle.code_rules.proofs.messages_kept.Statement.{statement}
 use Rattle.code_rules.proofs.messages_kept.Tie as tie
 
@@ -21,7 +21,7 @@ flags c = (asked-at c).before.args.asked
 
 messages_told : (c : tie.After-of-messages) → c.of_messages.result.kept ≡ if_asked (owners_asked (flags c)) (messages_kept (kernel c))
 messages_told c =
-    rw (passed (asked-at c).either.ensures c.before.before.before.if1.false) (messages-part (kernel c) c.of_messages.ensures)
+    rw (passed (asked-at c).either.ensures c.before.before.before.if1.false) (messages_part (kernel c) c.of_messages.ensures)
 
 either-requires : tie.Need-either-requires
 either-requires c κs = search rules
@@ -42,7 +42,7 @@ table-kept-requires c κs = search rules
 returns-3 : tie.Need-returns-3
 returns-3 c =
     let m : tie.After-of-messages = c.before.before.before.before.before in
-    let posted = posted-part (kernel m) m.of_messages.ensures in
+    let posted = posted_part (kernel m) m.of_messages.ensures in
     goes (passed (messages_told m) c.before.before.before.if2.false)
     (ends (c.table_kept.ensures ∙ ap (if_asked (flags m).messages) posted))
 

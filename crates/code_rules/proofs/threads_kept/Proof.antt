@@ -7,7 +7,7 @@ use Rattle.spec_rules.specs.declared.tests.Asked.{Asked}
 use Rattle.spec_rules.specs.Tests.{places_kept, time_kept, threads_kept, semaphores_kept, if_asked, conditions_asked}
 use Rattle.code_rules_records.proofs.Answers.{refused, passed}
 use Rattle.code_rules_records.proofs.Runs.{stops, goes, ends}
-use Rattle.code_rules.proofs.Parts.{objects, semaphores_part, threads-part, places-part, time-part, no_conditions}
+use Rattle.code_rules.proofs.Parts.{objects, semaphores_part, threads_part, places_part, time_part, no_conditions}
 use Rattle.code_rules.proofs.threads_kept.Statement.{statement}
 use Rattle.code_rules.proofs.threads_kept.Tie as tie
 
@@ -41,21 +41,21 @@ threads_told c =
     let s = semaphores-at c in
     let k = kernel s in
     rw (passed (asked-at s).conditions-asked.ensures s.before.before.before.before.if1.left)
-    (threads-part k c.of_threads.ensures (objects k s.before.of_semaphores_lem.ensures c.before.of_events_lem.ensures))
+    (threads_part k c.of_threads.ensures (objects k s.before.of_semaphores_lem.ensures c.before.of_events_lem.ensures))
 
 places_told : (c : tie.After-table-kept) → let s = semaphores-at (threads-at c) in
     c.table_kept.result ≡ if_asked (flags s).threads (places_kept (kernel s))
 places_told c =
     let t = threads-at c in
     let s = semaphores-at t in
-    c.table_kept.ensures ∙ ap (if_asked (flags s).threads) (places-part (kernel s) t.of_threads.ensures)
+    c.table_kept.ensures ∙ ap (if_asked (flags s).threads) (places_part (kernel s) t.of_threads.ensures)
 
 time_told : (c : tie.After-table-kept2) → let s = semaphores-at (threads-at (places-at c)) in
     c.table-kept2.result ≡ if_asked (flags s).threads (time_kept (kernel s))
 time_told c =
     let t = threads-at (places-at c) in
     let s = semaphores-at t in
-    c.table-kept2.ensures ∙ ap (if_asked (flags s).threads) (time-part (kernel s) t.of_threads.ensures)
+    c.table-kept2.ensures ∙ ap (if_asked (flags s).threads) (time_part (kernel s) t.of_threads.ensures)
 
 -- ---- and where the code goes on
 semaphores_pass : (c : tie.After-of-threads) → let s = semaphores-at c in if_asked (flags s).semaphores (semaphores_kept (kernel s)) ≡ true

@@ -38,9 +38,9 @@ module _ (waited untrue flags : ℕ) (r : Thread) where
     first_out h = in_range r.priority p (out_of_range r.first _ h)
 
     module _ (f : (0 < r.first) × (r.first ≤ priority_count)) where
-      reply-out : message_count ≤ r.reply → (r.reply ≡ 255 → ⊥) → false ≡ kept
+      reply_out : message_count ≤ r.reply → (r.reply ≡ 255 → ⊥) → false ≡ kept
       unfolding live_thread_by
-      reply-out h n =
+      reply_out h n =
           let e : (ltb r.reply message_count || eqb r.reply 255) ≡ false =
           rw (le-ltb r.reply message_count h) (ne_eqb r.reply 255 n) in
           in_range r.priority p (in_range r.first f (stops _ e))
@@ -64,7 +64,7 @@ returns-4 : tie.Need-returns-4
 returns-4 c = first_out _ _ _ _ (omega arith, omega arith) (λ h. omega arith)
 
 returns-5 : tie.Need-returns-5
-returns-5 c = reply-out _ _ _ _ (omega arith, omega arith) (omega arith, omega arith) (omega arith) c.if6.true
+returns-5 c = reply_out _ _ _ _ (omega arith, omega arith) (omega arith, omega arith) (omega arith) c.if6.true
 
 condition-kept-requires : tie.Need-condition-kept-requires
 condition-kept-requires c κs = search rules

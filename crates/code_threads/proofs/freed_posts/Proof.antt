@@ -8,7 +8,7 @@ use lib.ListN.{length, take, get_or, length-append}
 use borrow.Author.Rules.{rules}
 use Rattle.base_queue.specs.Lists.{keep}
 use Rattle.base_queue.specs.Queues.{pad}
-use Rattle.base_queue.proofs.Lists.{keep-next}
+use Rattle.base_queue.proofs.Lists.{keep_next}
 use Rattle.base_queue.proofs.Queues.{Walk, walk_start, sized_items, pad_push, queue_eq}
 use Rattle.spec_kernel.specs.declared.records.Message.{Message}
 use Rattle.spec_kernel.specs.Records.{no_message}
@@ -38,7 +38,7 @@ goes_on : (c : tie.After-owns invariant-loop decreases-loop)
 goes_on c =
     let a = c.before.before.before.before.before.before.args in
     let l = c.before.before.before.loop in
-    rw (c.owns.ensures, c.before.message-at.ensures) (keep-next (stays a.messages a.t) 0 a.posted.at l.i (omega arith))
+    rw (c.owns.ensures, c.before.message-at.ensures) (keep_next (stays a.messages a.t) 0 a.posted.at l.i (omega arith))
 
 size-requires : tie.Need-size-requires invariant-loop decreases-loop
 size-requires c κs = search rules

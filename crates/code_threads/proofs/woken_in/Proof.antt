@@ -14,7 +14,7 @@ use Rattle.spec_kernel.specs.Places.{home_of}
 use Rattle.spec_moves.proofs.Joins.{past_end}
 use Rattle.code_kernel_find.proofs.OfHomes.{is_home}
 use Rattle.spec_threads.specs.Threads.{wake_in, woken_in}
-use Rattle.code_threads.proofs.Walks.{Walked, walk-starts, walk-does, walk-skips, walk_ends}
+use Rattle.code_threads.proofs.Walks.{Walked, walk_starts, walk_does, walk_skips, walk_ends}
 use Rattle.code_threads.proofs.woken_in.Statement.{statement}
 use Rattle.code_threads.proofs.woken_in.Tie as tie
 
@@ -42,7 +42,7 @@ loop-holds : tie.Need-loop-init invariant-loop decreases-loop
 loop-holds c =
     let a = c.before.before.before.before.args in
     let e : length a.p.places.at ≡ capacity = search rules in
-    walk-starts wake_in (is_home a.p.records a.h) a.p a.p.places _ c.size.ensures e
+    walk_starts wake_in (is_home a.p.records a.h) a.p a.p.places _ c.size.ensures e
 
 array-read-t : tie.Need-array-read-t invariant-loop decreases-loop
 array-read-t c = search rules
@@ -74,7 +74,7 @@ loop-again c =
     let a = c.before.before.before.before.before.before.before.before.before.args in
     let l = c.before.before.before.before.loop in
     rw c.woken.ensures
-    (walk-does wake_in (is_home a.p.records a.h) a.p a.p.places.at l.i l.invariant (omega arith)
+    (walk_does wake_in (is_home a.p.records a.h) a.p a.p.places.at l.i l.invariant (omega arith)
     (eq-eqb _ _ (sym (meets c.before.before) ∙ c.before.if2.true)))
 
 loop-less-2 : tie.Need-loop-smaller-2 invariant-loop decreases-loop
@@ -84,7 +84,7 @@ loop-again-2 : tie.Need-loop-preserved-2 invariant-loop decreases-loop
 loop-again-2 c =
     let a = c.before.before.before.before.before.before.before.before.args in
     let l = c.before.before.before.loop in
-    walk-skips wake_in (is_home a.p.records a.h) a.p a.p.places.at l.i l.invariant (omega arith)
+    walk_skips wake_in (is_home a.p.records a.h) a.p a.p.places.at l.i l.invariant (omega arith)
     (ne_eqb _ _ (λ z. c.if2.false (meets c.before ∙ z)))
 
 returns : tie.Need-returns invariant-loop decreases-loop

@@ -15,7 +15,7 @@ use Rattle.spec_kernel.specs.declared.records.Thread.{Thread}
 use Rattle.spec_kernel.specs.Sizes.{thread_count}
 use Rattle.spec_kernel.specs.Records.{no_thread}
 use Rattle.spec_moves.proofs.Joins.{past_end}
-use Rattle.code_threads.proofs.Walks.{Walked, walk-starts, walk-does, walk-skips, walk_ends}
+use Rattle.code_threads.proofs.Walks.{Walked, walk_starts, walk_does, walk_skips, walk_ends}
 use Rattle.spec_time.specs.Time.{time_up, due}
 use Rattle.code_time.proofs.due_woken.Statement.{statement}
 use Rattle.code_time.proofs.due_woken.Tie as tie
@@ -46,7 +46,7 @@ loop-holds : tie.Need-loop-init invariant-loop decreases-loop
 loop-holds c =
     let p = c.before.before.before.before.args.p in
     let e : length p.time.at ≡ capacity = search rules in
-    walk-starts time_up (is_due p.records) p p.time _ c.size.ensures e
+    walk_starts time_up (is_due p.records) p p.time _ c.size.ensures e
 
 array-read-t : tie.Need-array-read-t invariant-loop decreases-loop
 array-read-t c = search rules
@@ -74,7 +74,7 @@ loop-again c =
     let p = c.before.before.before.before.before.before.before.before.before.args.p in
     let l = c.before.before.before.before.loop in
     rw c.time-up.ensures
-    (walk-does time_up (is_due p.records) p p.time.at l.i l.invariant (omega arith)
+    (walk_does time_up (is_due p.records) p p.time.at l.i l.invariant (omega arith)
     (eq-eqb _ _ (sym (meets c.before.before) ∙ c.before.if2.true)))
 
 loop-less-2 : tie.Need-loop-smaller-2 invariant-loop decreases-loop
@@ -84,7 +84,7 @@ loop-again-2 : tie.Need-loop-preserved-2 invariant-loop decreases-loop
 loop-again-2 c =
     let p = c.before.before.before.before.before.before.before.before.args.p in
     let l = c.before.before.before.loop in
-    walk-skips time_up (is_due p.records) p p.time.at l.i l.invariant (omega arith)
+    walk_skips time_up (is_due p.records) p p.time.at l.i l.invariant (omega arith)
     (ne_eqb _ _ (λ z. c.if2.false (meets c.before ∙ z)))
 
 returns : tie.Need-returns invariant-loop decreases-loop

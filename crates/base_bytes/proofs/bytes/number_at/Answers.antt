@@ -30,7 +30,7 @@ small c =
     let start = c.least-start.result in
     let wide = c.least-wide.result in
     rw (← step c) (un_word a.s.now (wide - (i - 1)) (start + (i - 1)) (omega arith)
-    (λ j. (c.shared-slice-known.given j).fits))
+    (λ j. (c.shared_slice_known-1.given j).fits))
 
 pub loop-i-init : goal.loop-i-init
 unfolding un

@@ -7,12 +7,12 @@ use lib.ListN.{length}
 use borrow.Author.Rules.{rules}
 use Rattle.base_bytes.specs.Logs.{noted, ends}
 use Rattle.base_bytes.proofs.Writing.{puts_room}
-use Rattle.base_bytes.proofs.Appending.{noted-room, noted_none, ends-room, ends-none}
+use Rattle.base_bytes.proofs.Appending.{noted_room, noted_none, ends_room, ends_none}
 use Rattle.base_bytes.proofs.logs.write.Goals as goal
 
 nothing : (log : List ℕ) (used : ℕ) (note : List ℕ) → length log < used + length note
     → (log ≡ noted log used note) × (used ≡ ends log used note)
-nothing log used note h = (sym (noted_none log used note h), sym (ends-none log used note h))
+nothing log used note h = (sym (noted_none log used note h), sym (ends_none log used note h))
 
 pub returns-then-log-used : goal.returns-then-log-used
 returns-then-log-used c =
@@ -28,7 +28,7 @@ pub returns : goal.returns
 returns c =
     let a = c.args in
     let h : a.used + length a.note.now ≤ length a.log.now = omega arith in
-    let e = c.put_all_lem.ensures ∙ puts_room a.log.now a.used a.note.now h in (
-      ap (λ p. p.log) e ∙ sym (noted-room a.log.now a.used a.note.now h),
-      ap (λ p. p.at) e ∙ sym (ends-room a.log.now a.used a.note.now h),
+    let e = c.put_all.ensures ∙ puts_room a.log.now a.used a.note.now h in (
+      ap (λ p. p.log) e ∙ sym (noted_room a.log.now a.used a.note.now h),
+      ap (λ p. p.at) e ∙ sym (ends_room a.log.now a.used a.note.now h),
     )

@@ -13,7 +13,7 @@ unfolding puts
 loop-k-preserved c =
     let l = c.loop-k in
     let b = c.put_byte-p in
-    (b.auto.0 ∙ l.invariant.0, l.invariant.1 ∙ rw (le_next l.k l.y (omega arith), b.ensures))
+    (b.auto.log ∙ l.invariant.0, l.invariant.1 ∙ rw (le_next l.k l.y (omega arith), b.ensures))
 
 pub returns : goal.returns
 unfolding puts le

@@ -49,7 +49,7 @@ last-length-requires c κs = search rules
 
 sub-before : tie.Need-overflow-sub-before
 sub-before c =
-    let a = c.before.before.before.before.args in rw c.last-length.ensures (last_within a.log.now a.used (has c)).0
+    let a = c.before.before.before.before.args in rw c.last_length_lem.ensures (last_within a.log.now a.used (has c)).0
 
 sub-undo-note : tie.Need-overflow-sub-undo-note
 sub-undo-note c = search rules
@@ -68,7 +68,7 @@ returns-2 c =
     let l : tie.After-last-length = c.before.before in
     let s = l.before.before.before in
     let a = s.before.args in
-    promised s _ (c.undo-note.ensures ∙ undone_part a.log.now a.used (has l) a.k _ l.last-length.ensures)
+    promised s _ (c.undo-note.ensures ∙ undone_part a.log.now a.used (has l) a.k _ l.last_length_lem.ensures)
 
 pub undo_kept_spec : {M : Type 1} → statement M
 undo_kept_spec =

@@ -14,7 +14,7 @@ use Rattle.spec_notes.specs.Touched.{same_row}
 use Rattle.code_notes.proofs.ScratchParts.{Held, held_length, held}
 use Rattle.spec_images.specs.Images.{image_of, longest_image, state_in, recalled}
 use Rattle.spec_images.proofs.Lengths.{image_short}
-use Rattle.code_images.proofs.ImageRead.{read_broken, read-other, read_same}
+use Rattle.code_images.proofs.ImageRead.{read_broken, read_other, read_same}
 use Rattle.spec_notes.proofs.Compared.{begins_same, other_length_lem}
 use Rattle.code_images.proofs.reading.read.Statement.{statement}
 use Rattle.code_images.proofs.reading.read.Tie as tie
@@ -73,7 +73,7 @@ returns-2 : tie.Need-returns-2
 returns-2 c =
     let p = c.before.before.before in
     c.nothing2.ensures
-    ∙ read-other (bytes_of p) (kept p) (sym (other_length_lem (told p) (bytes_of p) (λ h. c.before.if2.true (as_long p ∙ h))))
+    ∙ read_other (bytes_of p) (kept p) (sym (other_length_lem (told p) (bytes_of p) (λ h. c.before.if2.true (as_long p ∙ h))))
 
 array-share-prefix-again : tie.Need-array-share-prefix-preserved
 array-share-prefix-again c = (again c.before.before).within
@@ -102,7 +102,7 @@ returns-3 c =
     let m = c.before.before in
     let p = image-of m in
     c.nothing3.ensures
-    ∙ read-other (bytes_of p) (kept p) (sym (compared m) ∙ not-true m.same_bytes.result c.before.if3.true)
+    ∙ read_other (bytes_of p) (kept p) (sym (compared m) ∙ not-true m.same_bytes.result c.before.if3.true)
 
 returns-4 : tie.Need-returns-4
 returns-4 c =

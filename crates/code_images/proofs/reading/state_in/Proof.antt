@@ -163,7 +163,7 @@ returns c =
     let f = w.before.fresh.ensures in
     let es = w.before.before.section-of2.ensures in
     together x w.before.before.before.section-of.ensures es c.before.section-of6.ensures
-    (threads_in x e f t.before.before.threads-of.ensures t.before.section-of3.ensures t.threads-back.ensures)
+    (threads_in x e f t.before.before.threads-of.ensures t.before.section-of3.ensures t.threads_back_lem.ensures)
     (semaphores_in x e f (semaphores-of c).before.section-of5.ensures (semaphores-of c).semaphores-before.ensures)
     (events_in x e f es n.before.before.before.behind2.ensures n.before.before.events-before.ensures)
     n.before.number_at.ensures

@@ -4,7 +4,7 @@ use borrow.Author.Rules.{rules}
 use Rattle.code_notes.proofs.ScratchParts.{Held, held_length}
 use Rattle.spec_images.specs.Images.{messages_stored}
 use Rattle.spec_images.proofs.Lengths.{messages_below}
-use Rattle.code_images.proofs.StoredParts.{held_as, messages-stored}
+use Rattle.code_images.proofs.StoredParts.{held_as, messages_stored_lem}
 use Rattle.code_images.proofs.writing.put_message_part.Statement.{statement}
 use Rattle.code_images.proofs.writing.put_message_part.Tie as tie
 
@@ -28,7 +28,7 @@ written : (c : tie.After-put-messages) → Held c.put-messages.new.0 c.put-messa
 written c =
     let k = (start_of c).args.k in
     held_as (messages_below k)
-    (messages-stored k c.before.before.before.before.fresh.ensures c.before.no_call.ensures) c.put-messages.ensures
+    (messages_stored_lem k c.before.before.before.before.fresh.ensures c.before.no_call.ensures) c.put-messages.ensures
 
 array-share-prefix-scratch : tie.Need-array-share-prefix-scratch
 array-share-prefix-scratch c = (written c.before.before).within

@@ -4,7 +4,7 @@ use borrow.Author.Rules.{rules}
 use Rattle.code_notes.proofs.ScratchParts.{Held, held_length}
 use Rattle.spec_images.specs.Images.{semaphores_stored}
 use Rattle.spec_images.proofs.Lengths.{semaphores_below}
-use Rattle.code_images.proofs.StoredParts.{held_as, semaphores-stored}
+use Rattle.code_images.proofs.StoredParts.{held_as, semaphores_stored_lem}
 use Rattle.code_images.proofs.writing.put_semaphore_part.Statement.{statement}
 use Rattle.code_images.proofs.writing.put_semaphore_part.Tie as tie
 
@@ -29,7 +29,7 @@ written : (c : tie.After-put-semaphores)
 written c =
     let k = (start_of c).args.k in
     held_as (semaphores_below k)
-    (semaphores-stored k c.before.before.before.before.fresh.ensures c.before.no_call.ensures) c.put-semaphores.ensures
+    (semaphores_stored_lem k c.before.before.before.before.fresh.ensures c.before.no_call.ensures) c.put-semaphores.ensures
 
 array-share-prefix-scratch : tie.Need-array-share-prefix-scratch
 array-share-prefix-scratch c = (written c.before.before).within

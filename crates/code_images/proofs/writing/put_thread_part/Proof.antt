@@ -4,7 +4,7 @@ use borrow.Author.Rules.{rules}
 use Rattle.code_notes.proofs.ScratchParts.{Held, held_length}
 use Rattle.spec_images.specs.Images.{threads_stored}
 use Rattle.spec_images.proofs.Lengths.{threads_below}
-use Rattle.code_images.proofs.StoredParts.{held_as, threads-stored}
+use Rattle.code_images.proofs.StoredParts.{held_as, threads_stored_lem}
 use Rattle.code_images.proofs.writing.put_thread_part.Statement.{statement}
 use Rattle.code_images.proofs.writing.put_thread_part.Tie as tie
 
@@ -28,7 +28,7 @@ written : (c : tie.After-put-threads) → Held c.put-threads.new.0 c.put-threads
 written c =
     let k = (start_of c).args.k in
     held_as (threads_below k)
-    (threads-stored k c.before.before.before.before.fresh.ensures c.before.no_call.ensures) c.put-threads.ensures
+    (threads_stored_lem k c.before.before.before.before.fresh.ensures c.before.no_call.ensures) c.put-threads.ensures
 
 array-share-prefix-scratch : tie.Need-array-share-prefix-scratch
 array-share-prefix-scratch c = (written c.before.before).within

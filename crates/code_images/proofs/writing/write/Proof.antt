@@ -5,7 +5,7 @@ use borrow.Author.Tests.{not-true, not-false}
 use borrow.Author.Rules.{rules}
 use Rattle.spec_rules.specs.Tests.{keeps_rules}
 use Rattle.spec_images.specs.OnImages.{written}
-use Rattle.code_images.proofs.ImageWritten.{stored_broken, lent-then, stored-none, stored-whole}
+use Rattle.code_images.proofs.ImageWritten.{stored_broken, lent_then_lem, stored_none, stored_whole}
 use Rattle.code_images.proofs.writing.write.Statement.{statement}
 use Rattle.code_images.proofs.writing.write.Tie as tie
 
@@ -38,7 +38,7 @@ returns-2 c =
     let w : tie.After-put-whole = c.before.before.before in
     let a = (start_of w).args in
     let e = w.put_whole.ensures in
-    (stored-none a.k a.room.now (kept w) (sym e.0 ∙ c.if2.true), e.1 ∙ lent-then a.k a.room.now (kept w))
+    (stored_none a.k a.room.now (kept w) (sym e.0 ∙ c.if2.true), e.1 ∙ lent_then_lem a.k a.room.now (kept w))
 
 same-length-2 : tie.Need-same-length-2
 same-length-2 c = search rules
@@ -48,8 +48,8 @@ returns-3 c =
     let w : tie.After-put-whole = c.before.before.before in
     let a = (start_of w).args in
     let e = w.put_whole.ensures in (
-      ap (written 0) e.0 ∙ stored-whole a.k a.room.now (kept w) (λ z. c.if2.false (e.0 ∙ z)),
-      e.1 ∙ lent-then a.k a.room.now (kept w),
+      ap (written 0) e.0 ∙ stored_whole a.k a.room.now (kept w) (λ z. c.if2.false (e.0 ∙ z)),
+      e.1 ∙ lent_then_lem a.k a.room.now (kept w),
     )
 
 pub write_spec : {M : Type 1} → statement M

@@ -13,7 +13,7 @@ use Rattle.spec_kernel.specs.Records.{no_thread}
 use Rattle.spec_kernel.specs.Places.{home_of}
 use Rattle.spec_moves.proofs.Joins.{past_end}
 use Rattle.code_kernel_find.specs.AtHome.{first_at_home}
-use Rattle.code_kernel_find.proofs.OfHomes.{is_home, Search, search_starts, keep-here, keep-skip, keep_none}
+use Rattle.code_kernel_find.proofs.OfHomes.{is_home, Search, search_starts, keep_here, keep_skip, keep_none}
 use Rattle.code_kernel_find.proofs.firsts.first_at_home.Statement.{statement}
 use Rattle.code_kernel_find.proofs.firsts.first_at_home.Tie as tie
 
@@ -66,7 +66,7 @@ unfolding first_at_home
 returns c =
     let a = c.before.before.before.before.before.before.args in
     let l = c.before.before.before.loop in
-    keep-here (is_home a.t1 a.home) a.places _ c.before.before.before.before.size.ensures l.i l.invariant (omega arith)
+    keep_here (is_home a.t1 a.home) a.places _ c.before.before.before.before.size.ensures l.i l.invariant (omega arith)
     (eq-eqb _ _ (sym (meets c.before) ∙ c.if2.true))
 
 add-i : tie.Need-overflow-add-i invariant-loop decreases-loop
@@ -79,7 +79,7 @@ loop-again : tie.Need-loop-preserved invariant-loop decreases-loop
 loop-again c =
     let a = c.before.before.before.before.before.before.args in
     let l = c.before.before.before.loop in
-    keep-skip (is_home a.t1 a.home) a.places _ c.before.before.before.before.size.ensures l.i l.invariant (omega arith)
+    keep_skip (is_home a.t1 a.home) a.places _ c.before.before.before.before.size.ensures l.i l.invariant (omega arith)
     (ne_eqb _ _ (λ z. c.if2.false (meets c.before ∙ z)))
 
 returns-2 : tie.Need-returns-2 invariant-loop decreases-loop

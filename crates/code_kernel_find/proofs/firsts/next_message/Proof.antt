@@ -12,7 +12,7 @@ use Rattle.spec_kernel.specs.Sizes.{message_count}
 use Rattle.spec_kernel.specs.Records.{no_message}
 use Rattle.spec_moves.proofs.Joins.{past_end}
 use Rattle.spec_kernel.specs.Channels.{first_for}
-use Rattle.code_kernel_find.proofs.OfHomes.{Search, search_starts, keep-here, keep-skip, keep_none}
+use Rattle.code_kernel_find.proofs.OfHomes.{Search, search_starts, keep_here, keep_skip, keep_none}
 use Rattle.spec_kernel.proofs.Streams.{is_mine}
 use Rattle.code_kernel_find.proofs.firsts.next_message.Statement.{statement}
 use Rattle.code_kernel_find.proofs.firsts.next_message.Tie as tie
@@ -64,7 +64,7 @@ unfolding first_for
 returns c =
     let a = c.before.before.before.before.before.before.args in
     let l = c.before.before.before.loop in
-    keep-here (is_mine a.t1 a.t a.mask) a.posted _ c.before.before.before.before.size.ensures l.i l.invariant
+    keep_here (is_mine a.t1 a.t a.mask) a.posted _ c.before.before.before.before.size.ensures l.i l.invariant
     (omega arith)
     (sym (meets c.before) ∙ c.if2.true)
 
@@ -78,7 +78,7 @@ loop-again : tie.Need-loop-preserved invariant-loop decreases-loop
 loop-again c =
     let a = c.before.before.before.before.before.before.args in
     let l = c.before.before.before.loop in
-    keep-skip (is_mine a.t1 a.t a.mask) a.posted _ c.before.before.before.before.size.ensures l.i l.invariant
+    keep_skip (is_mine a.t1 a.t a.mask) a.posted _ c.before.before.before.before.size.ensures l.i l.invariant
     (omega arith)
     (sym (meets c.before) ∙ c.if2.false)
 

@@ -5,7 +5,7 @@ use native.Mathlib.Omega.{arith}
 use borrow.Author.Rules.{rules}
 use borrow.Author.Tests.{not-true, not-false}
 use Rattle.spec_kernel.specs.Sizes.{flag_count}
-use Rattle.code_kernel_find.proofs.Lowest.{PassedBits, clear-here, clear_next, clear_end}
+use Rattle.code_kernel_find.proofs.Lowest.{PassedBits, clear_here, clear_next, clear_end}
 use Rattle.code_kernel_find.proofs.free.free_flag.Statement.{statement}
 use Rattle.code_kernel_find.proofs.free.free_flag.Tie as tie
 
@@ -23,7 +23,7 @@ bit-requires c κs = search rules
 
 returns : tie.Need-returns invariant-loop decreases-loop
 returns c =
-    clear-here _ _ _ c.before.before.before.loop.invariant (omega arith) (sym c.before.bit.ensures ∙ not-true _ c.if1.true)
+    clear_here _ _ _ c.before.before.before.loop.invariant (omega arith) (sym c.before.bit.ensures ∙ not-true _ c.if1.true)
 
 add-i : tie.Need-overflow-add-i invariant-loop decreases-loop
 add-i c = search rules

@@ -6,7 +6,7 @@ use borrow.Author.Rules.{rules}
 use borrow.Author.Tests.{not-true, not-false}
 use Rattle.spec_kernel.specs.Sizes.{message_count}
 use Rattle.spec_kernel.specs.Records.{no_message}
-use Rattle.code_kernel_find.proofs.Lowest.{Passed, free-here, free-next, free_last, free_end, within}
+use Rattle.code_kernel_find.proofs.Lowest.{Passed, free_here, free_next, free_last, free_end, within}
 use Rattle.code_kernel_find.proofs.free.free_message.Statement.{statement}
 use Rattle.code_kernel_find.proofs.free.free_message.Tie as tie
 
@@ -37,7 +37,7 @@ cast-result : tie.Need-overflow-cast-result invariant-loop decreases-loop
 cast-result c = search rules
 
 returns : tie.Need-returns invariant-loop decreases-loop
-returns c = free-here (λ x. x.live) _ _ c.before.before.loop.invariant.0 no_message (omega arith) (not-true _ c.if1.true)
+returns c = free_here (λ x. x.live) _ _ c.before.before.loop.invariant.0 no_message (omega arith) (not-true _ c.if1.true)
 
 add-i : tie.Need-overflow-add-i invariant-loop decreases-loop
 add-i c = search rules
@@ -47,7 +47,7 @@ loop-less c = search rules
 
 loop-again : tie.Need-loop-preserved invariant-loop decreases-loop
 loop-again c = (
-  free-next (λ x. x.live) _ _ c.before.before.loop.invariant.0 no_message (omega arith) (not-false _ c.if1.false),
+  free_next (λ x. x.live) _ _ c.before.before.loop.invariant.0 no_message (omega arith) (not-false _ c.if1.false),
   omega arith,
   omega arith,
 )

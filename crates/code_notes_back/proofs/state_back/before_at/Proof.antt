@@ -117,7 +117,7 @@ returns c =
     (event-bytes-of e).section-of3.ensures
     (message-bytes-of e).section-of2.ensures
     c.before.section-of5.ensures
-    (threads-of e).threads-back.ensures
+    (threads-of e).threads_back_lem.ensures
     (posts-of e).posts-back.ensures
     (events-of e).before.semaphores-before.ensures
     (events-of e).events-before.ensures

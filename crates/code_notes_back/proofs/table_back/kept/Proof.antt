@@ -8,7 +8,7 @@ use native.Mathlib.Omega.{arith}
 use lib.ListN.{length, get_or, take, length-append}
 use Rattle.base_queue.specs.Lists.{keep}
 use Rattle.base_queue.specs.Queues.{pad}
-use Rattle.base_queue.proofs.Lists.{keep-next}
+use Rattle.base_queue.proofs.Lists.{keep_next}
 use Rattle.base_queue.proofs.Queues.{Walk, walk_start, sized_items, pad_push, queue_eq}
 use Rattle.code_notes_back.proofs.Merging.{untouched}
 use borrow.Author.Rules.{rules}
@@ -52,7 +52,7 @@ loop-again c =
     let l = c.before.before.before.loop in
     let w : List ℕ = keep (untouched a.out) (take l.i a.q.at) in
     let t : untouched a.out (get_or a.q.at l.i 0) ≡ true = sym c.before.stays.ensures ∙ c.if1.true in
-    let e = rw t at (keep-next (untouched a.out) 0 a.q.at l.i (omega arith)) in
+    let e = rw t at (keep_next (untouched a.out) 0 a.q.at l.i (omega arith)) in
     (omega arith, omega arith, rw (e, length-append) (omega arith), rw (e, l.invariant.3) (pad_push w l.k _ (sym l.invariant.2) (omega arith)))
 
 loop-less-2 : tie.Need-loop-smaller-2 invariant-loop decreases-loop
@@ -63,7 +63,7 @@ loop-again-2 c =
     let a = c.before.before.before.before.before.before.args in
     let l = c.before.before.before.loop in
     let t : untouched a.out (get_or a.q.at l.i 0) ≡ false = sym c.before.stays.ensures ∙ c.if1.false in
-    let e = rw t at (keep-next (untouched a.out) 0 a.q.at l.i (omega arith)) in
+    let e = rw t at (keep_next (untouched a.out) 0 a.q.at l.i (omega arith)) in
     (omega arith, omega arith, rw (e, append-nil) l.invariant.2, rw (e, append-nil) l.invariant.3)
 
 cast-t16 : tie.Need-overflow-cast-t16 invariant-loop decreases-loop

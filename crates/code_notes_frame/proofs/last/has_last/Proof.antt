@@ -23,7 +23,7 @@ returns-3 c =
     rw (
       le-leb 2 _ c.before.before.if1.false,
       le-leb _ _ c.before.if2.false,
-      ← c.before.before.before.last-length.ensures,
+      ← c.before.before.before.last_length_lem.ensures,
       lt-leb least_note _ c.if3.true,
     )
 
@@ -33,7 +33,7 @@ returns-4 c =
     rw (
       le-leb 2 _ c.before.before.if1.false,
       le-leb _ _ c.before.if2.false,
-      ← c.before.before.before.last-length.ensures,
+      ← c.before.before.before.last_length_lem.ensures,
       le-leb least_note _ c.if3.false,
     )
 

@@ -25,7 +25,7 @@ returns-2 : tie.Need-returns-2
 returns-2 c =
     rw (
       sym c.before.before.before.before.before.before.same.ensures ∙ c.before.before.before.before.before.if1.false,
-      ← c.before.before.before.old-place.ensures,
+      ← c.before.before.before.old_place_lem.ensures,
     ) c.before.before.put-message.ensures
 
 pub put_changed_message_spec : {M : Type 1} → statement M

@@ -46,7 +46,7 @@ returns-3 c =
       sym i.ensures ∙ not-false i.result f.if2.false,
       p.put-thread.ensures,
       p.before.before.old-place2.ensures,
-      p.before.before.before.old-place.ensures,
+      p.before.before.before.old_place_lem.ensures,
     )
 
 pub put_touched_spec : {M : Type 1} → statement M
