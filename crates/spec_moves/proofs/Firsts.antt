@@ -1,6 +1,6 @@
 -- The first of a list or queue of threads is 255 exactly where nobody stands in it: 255 is no thread.
 use Prim.Native.Nat.{ℕ, ◌<◌}
-use mathlib.Core.Path.{◌≡◌, refl}
+use mathlib.Core.Path.{◌≡◌, refl, subst}
 use mathlib.Core.List.{List, [], ◌∷◌}
 use native.Mathlib.Omega.{arith}
 use lib.Dec.{eqb, ltb}
@@ -18,7 +18,7 @@ use Rattle.spec_moves.proofs.Joins.{past_end}
 -- where 255 is no member, the first is 255 for the empty list alone
 first_none : (l : List ℕ) → (0 < count 255 l → ⊥) → eqb (first_of l) 255 ≡ is_empty l
 first_none [] h = refl
-first_none (x ∷ l) h = ne_eqb x 255 (λ e. h (rw (← e) (count_head x l)))
+first_none (x ∷ l) h = ne_eqb x 255 (λ e. h (subst (λ (z : ℕ). 0 < count z (x ∷ l)) e (count_head x l)))
 
 module _ (threads : List Thread) (e : length threads ≡ thread_count) (l : List ℕ) {h : ℕ} (b : h < nowhere) where
   -- those of l whose home is h

@@ -1,5 +1,5 @@
 -- A table of places over records: what the move of one member leaves of it, for threads and messages alike.
-use mathlib.Core.Path.{◌≡◌, refl, sym, ap, ◌∙◌}
+use mathlib.Core.Path.{◌≡◌, refl, sym, ap, ◌∙◌, subst}
 use mathlib.Core.Bool.{Bool, true, false, ◌&&◌, and-true}
 use mathlib.Core.List.{List, [], ◌∷◌, ◌++◌}
 use Prim.Native.Nat.{ℕ, ◌≤◌, ◌<◌}
@@ -25,7 +25,7 @@ pub without_short : (n x : ℕ) (l : List ℕ) → ((u : ℕ) → count u l ≤ 
     → length (without x l) < n
 without_short n x l once past h =
     pigeon n (x ∷ without x l)
-    (λ u. cases (eqb x u) (λ e. rw (← eqb-true x u e, same, count_without_same x l) (omega arith))
+    (λ u. cases (eqb x u) (λ e. subst (λ (v : ℕ). count v (x ∷ without x l) ≤ 1) (eqb-true x u e) (rw (same, count_without_same x l) (omega arith)))
     (λ e. rw (e, count_without_other l (λ z. eqb-false x u e (sym z))) (once u)))
     (λ u b. let ne : x ≡ u → ⊥ = λ z. omega arith in rw (ne_eqb x u ne, count_without_other l (λ z. ne (sym z))) (past u b))
 
