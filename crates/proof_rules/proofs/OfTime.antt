@@ -107,9 +107,9 @@ pulse_keeps {waited} {k} C i =
 pulses_keep : {waited : ℕ → Bool} {k : Kernel} → Core waited k → (i n : ℕ) → Keeps waited k (pulse_from i n k)
 unfolding pulse_from
 pulses_keep C i zero = (C, λ R. R, refl)
-pulses_keep C i (suc n) =
+pulses_keep {waited = waited} {k = k} C i (suc n) =
     let (D, R, U) = pulse_keeps C i in
-    let (D', R', U') = pulses_keep D (suc i) n in
+    let (D', R', U') = pulses_keep {k = pulse i k} D (suc i) n in
     (D', λ r. R' (R r), U' ∙ U)
 
 -- what the time makes of each thread

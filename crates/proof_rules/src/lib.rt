@@ -1,1 +1,2 @@
 // Every accepted call keeps the state rules: theorems only.
+#![tactic(auto)]
