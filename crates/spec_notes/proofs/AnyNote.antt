@@ -29,7 +29,7 @@ use Rattle.spec_notes.specs.Predicted.{was_blocked, predicted_thread, predicted_
 use Rattle.spec_notes.specs.Back.{fill_place, merge, put_back_all, Threading}
 use Rattle.spec_notes.specs.Back.{thread_own, thread_read, threads_before, semaphore_read, semaphores_before}
 use Rattle.spec_notes.specs.Back.{event_read, bit_changed, events_before, Filing, message_read, messages_before}
-use Rattle.spec_notes.proofs.EntriesBack.{get_d_map}
+use Rattle.spec_notes.proofs.EntriesBack.{get_or_map}
 use Rattle.spec_notes.proofs.Limits.{SmallSemaphore, SmallEvent, set_all}
 
 either_below : (b : Bool) (x y n : ℕ) → x < n → y < n → cond b x y < n
@@ -75,7 +75,7 @@ module _ (c : Call) where
         entries_keep (thread_own c new) (thread_read c new) (λ a. (t : ℕ) → FineThread (get_or a.threads t no_thread)) threads_fine
         (length s) s _ h
         (λ t. cases (ltb t (length new))
-        (λ e. rw (get_d_map (younger_thread c) new t no_thread (ltb-true t (length new) e)) (thread_younger _ (F t)))
+        (λ e. rw (get_or_map (younger_thread c) new t no_thread (ltb-true t (length new) e)) (thread_younger _ (F t)))
         (λ e. let b : length (map (younger_thread c) new) ≤ t = rw length-map (ltb-false t (length new) e) in
         rw (get_or-eq_default (map (younger_thread c) new) no_thread b) (omega arith)))
 
@@ -121,7 +121,7 @@ module _ (c : Call) where
         entries_keep (own_in semaphore_widths) (semaphore_read c new) (λ a. (i : ℕ) → SmallSemaphore (get_or a i no_semaphore)) semaphores_fine
         (length s) s _ h
         (λ i. cases (ltb i (length new))
-        (λ e. rw (get_d_map (younger_semaphore c) new i no_semaphore (ltb-true i (length new) e)) (semaphore_younger _ (F i)))
+        (λ e. rw (get_or_map (younger_semaphore c) new i no_semaphore (ltb-true i (length new) e)) (semaphore_younger _ (F i)))
         (λ e. let b : length (map (younger_semaphore c) new) ≤ i = rw length-map (ltb-false i (length new) e) in
         rw (get_or-eq_default (map (younger_semaphore c) new) no_semaphore b) (omega arith)))
 

@@ -17,13 +17,13 @@ use Rattle.spec_notes.specs.Sections.{entries_from}
 
 module _ {A : Type 0} where
   -- a default that isn't read
-  pub get_d_any : (l : List A) (j : ℕ) (d e : A) → j < length l → get_or l j d ≡ get_or l j e
-  get_d_any [] j d e h = absurd (omega arith)
-  get_d_any (x ∷ l) zero d e h = refl
-  get_d_any (x ∷ l) (suc j) d e h = get_d_any l j d e (omega arith)
+  pub get_or_any : (l : List A) (j : ℕ) (d e : A) → j < length l → get_or l j d ≡ get_or l j e
+  get_or_any [] j d e h = absurd (omega arith)
+  get_or_any (x ∷ l) zero d e h = refl
+  get_or_any (x ∷ l) (suc j) d e h = get_or_any l j d e (omega arith)
 
-  pub get_d_map : (f : A → A) (l : List A) (j : ℕ) (d : A) → j < length l → get_or (map f l) j d ≡ f (get_or l j d)
-  get_d_map f l j d h = get_d_any (map f l) j d (f d) (rw length-map h) ∙ ListN.get_d_map f l j d
+  pub get_or_map : (f : A → A) (l : List A) (j : ℕ) (d : A) → j < length l → get_or (map f l) j d ≡ f (get_or l j d)
+  get_or_map f l j d h = get_or_any (map f l) j d (f d) (rw length-map h) ∙ ListN.get_or-map f l j d
 
 -- a step for each touched one of n ids from i on
 pub each : {A : Type 0} → (ℕ → Bool) → (ℕ → A → A) → ℕ → ℕ → A → A

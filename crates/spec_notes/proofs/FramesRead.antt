@@ -15,7 +15,7 @@ use Rattle.spec_notes.specs.Sections.{scheduler_section, threads_section, semaph
 use Rattle.spec_notes.specs.Sections.{flags_section, messages_section}
 use Rattle.spec_notes.specs.Notes.{section, framed, sections_of, before_length, note_of, least_note}
 use Rattle.spec_notes.specs.Frames.{sections, is_whole, first_section, behind_section, sections_at, are_whole, section_bytes, frames_of}
-use Rattle.spec_notes.specs.Undo.{last_length, has_last_lem, last_note}
+use Rattle.spec_notes.specs.Undo.{last_length, has_last, last_note}
 use Rattle.spec_notes.proofs.EntriesShort.{scheduler_short, threads_below, semaphores_below, events_below, flags_below}
 use Rattle.spec_notes.proofs.EntriesShort.{messages_below}
 use Rattle.spec_notes.proofs.Lengths.{note_length}
@@ -124,8 +124,8 @@ module _ (k : Kernel) (bytes : List ℕ) (k' : Kernel) (h : length bytes ≡ 16)
         let e : used - 2 ≡ length (earlier ++ before_length k bytes k') = rw length-append (omega arith) in
         rw (e, split, drop-append_seam) (un_le 2 (length (before_length k bytes k') + 2) rest (omega arith) ∙ sym f)
 
-    has_last_lem : has_last_lem log used ≡ true
-    unfolding has_last_lem
+    has_last_lem : has_last log used ≡ true
+    unfolding has_last
     has_last_lem =
         let (low, _) = note_sizes in
         let n = length (note_of k bytes k') in

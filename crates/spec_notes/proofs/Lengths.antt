@@ -131,7 +131,7 @@ module _ (k : Kernel) (c : Call) (k' : Kernel) where
     unfolding touched_event
     events_one n =
         let s : length (event_entries k.events k'.events 0 n) ≤ 11 * count_from (λ _. false) 0 n + 11 =
-        entries_but_one (touched_event k c k') _ (event_entry k.events k'.events) 11 (λ i _. event_entry_lem k.events k'.events i)
+        entries_but_one (touched_event k c k') (λ _. false) (event_entry k.events k'.events) 11 (λ i _. event_entry_lem k.events k'.events i)
         c.a (λ i t _. L.events i t) 0 n in
         let z = count_none 0 n in
         omega arith

@@ -23,7 +23,7 @@ use Rattle.spec_notes.specs.Back.{semaphore_read, semaphores_before}
 use Rattle.spec_notes.specs.Within.{Within}
 use Rattle.spec_notes.proofs.RowsBack.{Fit, field, unused, entry_row, entry_rest}
 use Rattle.spec_notes.proofs.RecordsBack.{flag_below, semaphore_back, same_semaphore_lem}
-use Rattle.spec_notes.proofs.EntriesBack.{get_d_map, read_part, records_back}
+use Rattle.spec_notes.proofs.EntriesBack.{get_or_map, read_part, records_back}
 
 module _ (k : Kernel) (c : Call) (k' : Kernel) (W : Within k) where
   abbrev touched : ℕ → Bool
@@ -60,4 +60,4 @@ module _ (k : Kernel) (c : Call) (k' : Kernel) (W : Within k) where
         (λ _ _. refl) _ semaphore_count _ (omega arith) (le_refl _)
         ∙ records_back touched no_semaphore semaphore_count k.semaphores (map (younger_semaphore c) k'.semaphores) Z.semaphores
         (length-map k'.semaphores _ ∙ Z'.semaphores)
-        (λ i b e. get_d_map (younger_semaphore c) k'.semaphores i no_semaphore (rw Z'.semaphores b) ∙ untouched i e)
+        (λ i b e. get_or_map (younger_semaphore c) k'.semaphores i no_semaphore (rw Z'.semaphores b) ∙ untouched i e)

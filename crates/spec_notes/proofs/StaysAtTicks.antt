@@ -74,7 +74,7 @@ pulse_woke {k} {u} W i b =
 pulses_woke : {k u : Kernel} → Woke k u → (i n : ℕ) → i + n ≤ semaphore_count → Woke k (pulse_from i n u)
 unfolding pulse_from
 pulses_woke W i zero b = W
-pulses_woke W i (suc n) b = pulses_woke (pulse_woke W i (omega arith)) (suc i) n (omega arith)
+pulses_woke {k = k} {u = u} W i (suc n) b = pulses_woke {u = pulse i u} (pulse_woke W i (omega arith)) (suc i) n (omega arith)
 
 -- ---- uptime
 earlier_later : (c : Call) → c.kind ≡ 1 → (n : ℕ) → n ≡ earlier c (later n)

@@ -17,7 +17,7 @@ use Rattle.base_queue.specs.Tables.{one, Placed, old_place}
 use Rattle.base_queue.proofs.Counts.{count_head, count_rest, count_at, place_of_there, place_of_at, keep_same}
 use Rattle.base_queue.proofs.Tables.{placed_once, placed_past, placed_short}
 use Rattle.spec_notes.specs.Back.{fill_place, merge, put_back_all}
-use Rattle.spec_notes.proofs.EntriesBack.{get_d_any, each, each_stays, each_at, marked}
+use Rattle.spec_notes.proofs.EntriesBack.{get_or_any, each, each_stays, each_at, marked}
 
 -- a noted member goes to its place
 place_noted : (x : ℕ) (l : List ℕ) (go : List ℕ → List ℕ) → eqb x 255 ≡ false → fill_place x l go ≡ x ∷ go l
@@ -70,7 +70,7 @@ module _ (touched : ℕ → Bool) where
         cases (has i l)
         (λ e. let (h, is) = place_of_there i l (ltb-true 0 (count i l) e) in
         let q : place_of i l ≡ j = rw e at p in
-        rw (← q, get_d_any l (place_of i l) 255 0 h, is, t))
+        rw (← q, get_or_any l (place_of i l) 255 0 h, is, t))
         (λ e. absurd (omega (arith, rw e at p)))
 
     -- a member stood at its place
@@ -78,7 +78,7 @@ module _ (touched : ℕ → Bool) where
     old_place_lem j h =
         let c = count_at l j h in
         let p = place_of_at l j h (once (get_or l j 0)) in
-        rw (get_d_any l j 255 0 h, lt-ltb 0 _ c) (ids (get_or l j 0) c, p)
+        rw (get_or_any l j 255 0 h, lt-ltb 0 _ c) (ids (get_or l j 0) c, p)
 
     old_noted : (j : ℕ) → j < m → get_or old j 255 ≡ noted (get_or l j 255)
     old_noted j b =

@@ -37,7 +37,7 @@ use Rattle.spec_notes.specs.Within.{Within}
 use Rattle.spec_notes.specs.LeftAlone.{LeftAlone}
 use Rattle.spec_notes.proofs.RowsBack.{Fit, none, field, entry_row, entry_rest}
 use Rattle.spec_notes.proofs.RecordsBack.{ByteId, Dead, thread_back_lem, same_thread_lem}
-use Rattle.spec_notes.proofs.EntriesBack.{get_d_map, each, read_part, records_back}
+use Rattle.spec_notes.proofs.EntriesBack.{get_or_map, each, read_part, records_back}
 use Rattle.spec_notes.proofs.TablesBack.{place_below, table_back}
 
 pub wake_small : (w : Wake) → wake_code w < 6
@@ -164,7 +164,7 @@ module _ (k : Kernel) (c : Call) (k' : Kernel) where
           part (λ a. a.threads) (λ t l. set l t (thread k t)) (λ _ _. refl)
           ∙ records_back touched no_thread thread_count k.threads (map (younger_thread c) k'.threads) Z.threads
           (length-map k'.threads _ ∙ Z'.threads)
-          (λ t b e. get_d_map (younger_thread c) k'.threads t no_thread (rw Z'.threads b) ∙ untouched t e)
+          (λ t b e. get_or_map (younger_thread c) k'.threads t no_thread (rw Z'.threads b) ∙ untouched t e)
 
       module _ (F : LeftAlone k c k') where
         pub places-back : put_back_all read.out read.at k'.places ≡ k.places

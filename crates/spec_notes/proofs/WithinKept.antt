@@ -83,7 +83,7 @@ pulse_limits {k} L i =
 pulses_limits : {k : Kernel} → Limits k → (i n : ℕ) → Limits (pulse_from i n k)
 unfolding pulse_from
 pulses_limits L i zero = L
-pulses_limits L i (suc n) = pulses_limits (pulse_limits L i) (suc i) n
+pulses_limits {k = k} L i (suc n) = pulses_limits {k = pulse i k} (pulse_limits L i) (suc i) n
 
 later_small : (n : ℕ) → n < 4294967296 → later n < 4294967296
 later_small n b = cases (eqb n 4294967295) (λ e. rw e (omega arith)) (λ e. rw e (omega (arith, eqb-false n 4294967295 e)))
