@@ -17,7 +17,7 @@ def decls(text):
     return out
 
 def norm(x):
-    x=x.replace('_','-')
+    x=x.replace('_','-').lower()
     return x[:-4] if x.endswith('-lem') else x
 
 class Alike(dict):
@@ -63,7 +63,8 @@ def turn_expr(fn, text, env, problems):
         step=fn.places[place][2]
         if norm(f)==norm(step[0]) and step[1]:
             return var+'.'+step[1]
-        if f in ('args','requires','ranges','well_formed','good'):
+        if f in ('well-formed','good'): f='well_formed'
+        if f in ('args','requires','ranges','well_formed'):
             return var+'.'+f
         # a field of an earlier name
         p=place
@@ -101,6 +102,7 @@ def convert(names, cratedir, crate, path):
     # variables bound to args: a.tN
     for m in re.finditer(r"let ([\w'₀-₉]+) = c(?:\.before)*\.args in",text):
         text=re.sub(r"(?<![\w.'₀-₉-])"+re.escape(m[1])+r"\.t(\d+)\b",lambda q: m[1]+'.'+params[int(q[1])-1] if int(q[1])<=len(params) else q[0],text)
+    text=re.sub(r"sym \(length-map [^()]* _\) ∙ ","",text)
     text=re.sub(r"\.inv\b",'.invariant',text.replace('.type-inv','.type_inv'))
     text=re.sub(r"\.t(\d+)\b",lambda m: '.'+params[int(m[1])-1] if int(m[1])<=len(params) else m[0],text)
     bl=decls(text)
@@ -170,9 +172,11 @@ def convert(names, cratedir, crate, path):
             c=params[0] if params else 'c'
             expr='\n'.join([m[2].strip()]+body[1:]).strip('\n')
             flat=' '.join(expr.split())
-            if TRIVIAL.match(flat) and not comments: continue
+            if TRIVIAL.match(flat) and not unf: continue
             env={c:place}
             ex=lets(fn,expr,env,problems,new)
+            arm=re.search(r"-in-([\w-]+?)(?:-\d+)?$",new)
+            if arm: ex=re.sub(re.escape(c)+r"\.(?:enum_told|c)[\w-]*\.given\.1",c+".in-"+arm[1]+".is",ex)
             answers.append('\n'.join(comments+[f'pub {new} : goal.{new}']+unf+[f'{new} {c} ='+(' ' if '\n' not in ex else '\n    ')+ex.strip()]))
         else:
             # a helper
@@ -195,7 +199,11 @@ def convert(names, cratedir, crate, path):
                 i=t2.find('\n'+nm+' ')
                 t2=lets(fn,t2[:i+1],env,problems)+clause(fn,t2[i+1:],list(env),env,problems,nm,places)
             answers.append('\n'.join(comments+[t2]))
-    answers=[re.sub(r"not-(?:true|false) (?:_|[\w.'-]+|\([^()]*\)) ([\w.'-]+\.(?:true|false))(?![\w.'-])",r"\1",a) for a in answers]
+    callees={n.split('::')[-1] for n in fn.rec['params']}
+    def plain(m):
+        step=re.search(r"\.if-not-([\w]+)",m[1])
+        return m[1] if step and step[1] in callees else m[0]
+    answers=[re.sub(r"not-(?:true|false) (?:_|[\w.'-]+|\([^()]*\)) ([\w.'-]+\.(?:true|false))(?![\w.'-])",plain,a) for a in answers]
     us=[u for u in uses if not re.search(r'\.(Statement|Tie)\b',u)]
     base=f'Rattle.{crate}.proofs.{rel.replace("/",".")}'
     if shared:

@@ -1,4 +1,6 @@
 // What comes back of a call and of an undo, with and without a log; the promises, the sample runs, and their theorems.
+#![tactic(auto)]
+
 use spec_kernel::records::Kernel;
 
 // What comes back of a call: a number, a value, and who runs (255 for none).

@@ -1,4 +1,6 @@
 // The stored state: its image, read and written, and a call and an undo on it; the promises, and their theorems.
+#![tactic(auto)]
+
 use spec_answers::Answer;
 use spec_kernel::records::Kernel;
 
