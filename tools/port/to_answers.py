@@ -125,8 +125,9 @@ def convert(names, cratedir, crate, path):
     decl={}
     for b in items:
         sig=[l for l in b if not l.startswith('--')][0]
-        nm=re.match(r'(?:(?:abbrev|pub|unfoldable) )*([^\s:]+)',sig)[1]
-        decl[nm]=b
+        nm=re.match(r'(?:(?:abbrev|pub|unfoldable) )*([^\s:]+)',sig)
+        if not nm: problems.append('block '+sig); return [f'{rel}: {p}' for p in problems]
+        decl[nm[1]]=b
     inv=[n for n in decl if re.search(r': tie\.(invariant|decreases)',' '.join(decl[n]))]
     goals={}
     if order:
@@ -176,6 +177,7 @@ def convert(names, cratedir, crate, path):
             env={c:place}
             ex=lets(fn,expr,env,problems,new)
             arm=re.search(r"-in-([\w-]+?)(?:-\d+)?$",new)
+            ex=re.sub(re.escape(c)+r"\.(?:enum_told|c)-(in-[A-Z]\w*)-\d+\.given\.1",c+r".\1.is",ex)
             if arm: ex=re.sub(re.escape(c)+r"\.(?:enum_told|c)[\w-]*\.given\.1",c+".in-"+arm[1]+".is",ex)
             answers.append('\n'.join(comments+[f'pub {new} : goal.{new}']+unf+[f'{new} {c} ='+(' ' if '\n' not in ex else '\n    ')+ex.strip()]))
         else:

@@ -1,4 +1,6 @@
 // The two moves, over the parts that they touch and over the whole state, and the scheduler.
+#![tactic(auto)]
+
 pub mod states;
 
 ghost use Rattle.std.specs.Prelude.{◌≡◌, ltb, get_or};

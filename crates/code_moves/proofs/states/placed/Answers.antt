@@ -1,0 +1,6 @@
+-- `code_moves::states::placed` meets its contract: the move, on the part that threads move in.
+use borrow.Author.Rules.{rules}
+use Rattle.code_moves.proofs.states.placed.Goals as goal
+
+pub returns : goal.returns
+returns c = rw (c.with_threads.ensures, c.relocated.ensures, c.threads_of.ensures)
