@@ -3,18 +3,16 @@
 use Prim.Native.Nat.{ℕ, ◌≤◌, ◌<◌}
 use mathlib.Core.Path.{◌≡◌}
 use mathlib.Core.Bool.{Bool, true, false, ◌&&◌, ◌||◌, or-true}
-use mathlib.Core.Logic.{⊎_elim}
 use native.Mathlib.Omega.{arith}
 use lib.Dec.{eqb, ltb, leb}
 use borrow.Author.Tests.{eq-eqb, ne_eqb, lt-ltb, le-ltb, le-leb, lt-leb, ltb-true}
 use borrow.Table.Steps.{cases}
-use borrow.Author.Rules.{rules}
 use Rattle.spec_kernel.specs.Sizes.{message_count, priority_count}
 use Rattle.spec_kernel.specs.declared.records.Thread.{Thread}
 use Rattle.code_rules_records.specs.Others.{condition_by, live_thread_by}
 use Rattle.code_rules_records.proofs.Runs.{stops, goes, ends}
-use Rattle.code_rules_records.proofs.live_thread_kept.Statement.{statement}
-use Rattle.code_rules_records.proofs.live_thread_kept.Tie as tie
+use Rattle.code_rules_records.proofs.live_thread_kept.Goals as goal
+use Rattle.code_rules_records.proofs.live_thread_kept.Goals.{then-r-ge-MESSAGE_IDS+else-r-ne255, else-r-ge-MESSAGE_IDS}
 
 -- a priority is within its bounds: its two tests, and what the rest says
 in_range : (p : ℕ) {b rest : Bool} → (0 < p) × (p ≤ priority_count) → b ≡ rest → b ≡ (ltb 0 p && (leb p priority_count && rest))
@@ -51,32 +49,28 @@ module _ (waited untrue flags : ℕ) (r : Thread) where
       unfolding live_thread_by
       rest h e = in_range r.priority p (in_range r.first f (goes h (ends e)))
 
-returns : tie.Need-returns
-returns c = priority_out _ _ _ _ (λ h. omega arith)
+pub returns-then-r-eq0 : goal.returns-then-r-eq0
+returns-then-r-eq0 c = priority_out _ _ _ _ (λ h. omega arith)
 
-returns-2 : tie.Need-returns-2
-returns-2 c = priority_out _ _ _ _ (λ h. omega arith)
+pub returns-then-r-gt-PRIORITIES : goal.returns-then-r-gt-PRIORITIES
+returns-then-r-gt-PRIORITIES c = priority_out _ _ _ _ (λ h. omega arith)
 
-returns-3 : tie.Need-returns-3
-returns-3 c = first_out _ _ _ _ (omega arith, omega arith) (λ h. omega arith)
+pub returns-then-r-eq0-2 : goal.returns-then-r-eq0-2
+returns-then-r-eq0-2 c = first_out _ _ _ _ (omega arith, omega arith) (λ h. omega arith)
 
-returns-4 : tie.Need-returns-4
-returns-4 c = first_out _ _ _ _ (omega arith, omega arith) (λ h. omega arith)
+pub returns-then-r-gt-PRIORITIES-2 : goal.returns-then-r-gt-PRIORITIES-2
+returns-then-r-gt-PRIORITIES-2 c = first_out _ _ _ _ (omega arith, omega arith) (λ h. omega arith)
 
-returns-5 : tie.Need-returns-5
-returns-5 c = reply_out _ _ _ _ (omega arith, omega arith) (omega arith, omega arith) (omega arith) c.if6.true
-
-condition-kept-requires : tie.Need-condition-kept-requires
-condition-kept-requires c κs = search rules
+pub returns-then-r-ne255 : goal.returns-then-r-ne255
+returns-then-r-ne255 c =
+    reply_out _ _ _ _ (omega arith, omega arith) (omega arith, omega arith) (omega arith) c.if-r-ne255.true
 
 -- where the arms meet, the reply is as it should be
-returns-6 : tie.Need-returns-6
-returns-6 c =
+pub returns : goal.returns
+returns c =
     rest _ _ _ _ (omega arith, omega arith) (omega arith, omega arith)
-    (⊎_elim (λ w. rw (eq-eqb _ _ w.2.left, or-true)) (λ w. rw (lt-ltb _ _ w.left)) c.before.if5.branch)
-    c.condition-kept.ensures
-
-pub live_thread_kept_spec : {M : Type 1} → statement M
-live_thread_kept_spec =
-    tie.close
-    (tie.spec returns returns-2 returns-3 returns-4 returns-5 condition-kept-requires returns-6)
+    (elim c.if-r-ge-MESSAGE_IDS.branch [
+      | then-r-ge-MESSAGE_IDS+else-r-ne255 w ↦ rw (eq-eqb _ _ w.if-r-ne255.false, or-true)
+      | else-r-ge-MESSAGE_IDS w ↦ rw (lt-ltb _ _ w.if-r-ge-MESSAGE_IDS.false)
+    ])
+    c.condition_kept.ensures
