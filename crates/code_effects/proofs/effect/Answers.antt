@@ -1,10 +1,9 @@
 -- `code_effects::effect` meets its contract: each arm does what the table has at its kind.
 use Prim.Native.Nat.{ℕ, ◌≤◌, ◌<◌}
 use mathlib.Core.Path.{◌≡◌, refl}
-use mathlib.Core.List.{List, [], ◌∷◌}
+use mathlib.Core.List.{List, ◌∷◌}
 use mathlib.Core.Logic.{⊎_elim, inl, inr}
 use native.Mathlib.Omega.{arith}
-use borrow.Author.Rules.{rules}
 use Rattle.spec_effects.proofs.ByKind.{does_past}
 use Rattle.code_effects.proofs.Arms.{row, singles, left_over, signals}
 use Rattle.code_effects.proofs.effect.Goals as goal
@@ -117,7 +116,7 @@ pub returns-in-20 : goal.returns-in-20
 returns-in-20 c =
     signals _ _ c.signalled.ensures
     (elim c.in-20-1.branch [
-      in-20-1 w ↦ inl w.in-20-1.keys20
-    | in_default+else-kind-lt1+then-kind-lt31 w ↦
-      inr (left_over (22 ∷ 23 ∷ 29 ∷ 30 ∷ []) arms _ 30 refl w.in_default-1.rest w.if-kind-lt1-1.false (omega (arith, w.if-kind-lt31-1.true)))
+      | in-20-1 w ↦ inl w.in-20-1.keys20
+      | in_default+else-kind-lt1+then-kind-lt31 w ↦
+          inr (left_over (22 ∷ 23 ∷ 29 ∷ 30 ∷ []) arms _ 30 refl w.in_default-1.rest w.if-kind-lt1-1.false (omega (arith, w.if-kind-lt31-1.true)))
     ])

@@ -2,7 +2,6 @@
 use Prim.Native.Nat.{◌-◌}
 use mathlib.Core.Path.{◌≡◌}
 use native.Mathlib.Omega.{arith}
-use borrow.Author.Rules.{rules}
 use Rattle.code_time.proofs.aged.Goals as goal
 
 pub returns-else-r-gt0 : goal.returns-else-r-gt0

@@ -1,11 +1,9 @@
 -- `code_time::aged_records` meets its contract: the first t threads are as they will be, the others as they were.
-use Prim.Native.Nat.{◌≤◌, ◌-◌}
-use mathlib.Core.Path.{◌≡◌, refl, ◌∙◌}
-use mathlib.Core.List.{map, ◌++◌}
+use Prim.Native.Nat.{◌-◌}
+use mathlib.Core.Path.{refl, ◌∙◌}
 use native.Mathlib.Omega.{arith}
-use lib.ListN.{length, take, drop, length-set}
+use lib.ListN.{length-set}
 use borrow.Author.Rules.{rules}
-use Rattle.spec_kernel.specs.Sizes.{thread_count}
 use Rattle.spec_kernel.specs.Records.{no_thread}
 use Rattle.base_queue.proofs.Maps.{map_next, map_end}
 use Rattle.spec_time.specs.Time.{aged}

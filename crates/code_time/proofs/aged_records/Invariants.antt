@@ -1,13 +1,9 @@
 -- `code_time::aged_records` meets its contract: the first t threads are as they will be, the others as they were.
 use Prim.Native.Nat.{◌≤◌, ◌-◌}
-use mathlib.Core.Path.{◌≡◌, refl, ◌∙◌}
+use mathlib.Core.Path.{◌≡◌}
 use mathlib.Core.List.{map, ◌++◌}
-use native.Mathlib.Omega.{arith}
-use lib.ListN.{length, take, drop, length-set}
-use borrow.Author.Rules.{rules}
+use lib.ListN.{length, take, drop}
 use Rattle.spec_kernel.specs.Sizes.{thread_count}
-use Rattle.spec_kernel.specs.Records.{no_thread}
-use Rattle.base_queue.proofs.Maps.{map_next, map_end}
 use Rattle.spec_time.specs.Time.{aged}
 use Rattle.code_time.proofs.aged_records.Given as goal
 

@@ -1,13 +1,9 @@
 -- `code_time::due_woken` meets its contract: of the i places passed, those with one tick left have woken. Where the arms meet, `ticks` is
 -- what the member at i has left; past the records that is 0.
-use Prim.Native.Nat.{ℕ, ◌-◌}
+use Prim.Native.Nat.{◌-◌}
 use mathlib.Core.Path.{◌≡◌, sym, ap, ◌∙◌}
-use mathlib.Core.Logic.{⊎_elim}
-use mathlib.Core.Bool.{Bool}
-use mathlib.Core.List.{List}
 use native.Mathlib.Omega.{arith}
-use lib.Dec.{eqb}
-use lib.ListN.{length, length-map, get_or}
+use lib.ListN.{length, get_or}
 use borrow.Author.Tests.{eq-eqb, ne_eqb}
 use borrow.Author.Rules.{rules}
 use Rattle.base_queue.specs.Queues.{capacity}
@@ -15,7 +11,7 @@ use Rattle.spec_kernel.specs.declared.records.Thread.{Thread}
 use Rattle.spec_kernel.specs.Sizes.{thread_count}
 use Rattle.spec_kernel.specs.Records.{no_thread}
 use Rattle.spec_moves.proofs.Joins.{past_end}
-use Rattle.code_threads.proofs.Walks.{Walked, walk_starts, walk_does, walk_skips, walk_ends}
+use Rattle.code_threads.proofs.Walks.{walk_starts, walk_does, walk_skips, walk_ends}
 use Rattle.spec_time.specs.Time.{time_up, due}
 use Rattle.code_time.proofs.due_woken.Invariants.{is_due}
 use Rattle.code_time.proofs.due_woken.Goals as goal
@@ -29,8 +25,8 @@ meets c =
     let l = c.args.p.records in
     let e : length l ≡ thread_count = c.well_formed.0.1.1.0.1.0.1 in
     elim c.if-t-lt-THREAD_IDS.branch [
-      then-t-lt-THREAD_IDS w ↦ w.ticks-is
-    | else-t-lt-THREAD_IDS w ↦ w.ticks-is ∙ sym (ap (λ (r : Thread). r.ticks) (past_end l no_thread e w.if-t-lt-THREAD_IDS.false))
+      | then-t-lt-THREAD_IDS w ↦ w.ticks-is
+      | else-t-lt-THREAD_IDS w ↦ w.ticks-is ∙ sym (ap (λ (r : Thread). r.ticks) (past_end l no_thread e w.if-t-lt-THREAD_IDS.false))
     ]
 
 pub loop-i-init : goal.loop-i-init

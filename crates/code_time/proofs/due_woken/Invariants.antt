@@ -1,22 +1,14 @@
 -- `code_time::due_woken` meets its contract: of the i places passed, those with one tick left have woken. Where the arms meet, `ticks` is
 -- what the member at i has left; past the records that is 0.
 use Prim.Native.Nat.{ℕ, ◌-◌}
-use mathlib.Core.Path.{◌≡◌, sym, ap, ◌∙◌}
-use mathlib.Core.Logic.{⊎_elim}
 use mathlib.Core.Bool.{Bool}
 use mathlib.Core.List.{List}
-use native.Mathlib.Omega.{arith}
 use lib.Dec.{eqb}
-use lib.ListN.{length, length-map, get_or}
-use borrow.Author.Tests.{eq-eqb, ne_eqb}
-use borrow.Author.Rules.{rules}
-use Rattle.base_queue.specs.Queues.{capacity}
+use lib.ListN.{get_or}
 use Rattle.spec_kernel.specs.declared.records.Thread.{Thread}
-use Rattle.spec_kernel.specs.Sizes.{thread_count}
 use Rattle.spec_kernel.specs.Records.{no_thread}
-use Rattle.spec_moves.proofs.Joins.{past_end}
-use Rattle.code_threads.proofs.Walks.{Walked, walk_starts, walk_does, walk_skips, walk_ends}
-use Rattle.spec_time.specs.Time.{time_up, due}
+use Rattle.code_threads.proofs.Walks.{Walked}
+use Rattle.spec_time.specs.Time.{time_up}
 use Rattle.code_time.proofs.due_woken.Given as goal
 
 abbrev pub is_due : List Thread → ℕ → Bool

@@ -1,6 +1,5 @@
 -- `code_time::later` meets its contract.
 use borrow.Author.Tests.{eq-eqb, ne_eqb}
-use borrow.Author.Rules.{rules}
 use Rattle.code_time.proofs.later.Goals as goal
 
 pub returns-then-uptime-eq4294967295 : goal.returns-then-uptime-eq4294967295

@@ -2,12 +2,10 @@
 use Prim.Native.Nat.{◌-◌}
 use mathlib.Core.Path.{◌≡◌, sym, ap, ◌∙◌}
 use mathlib.Core.Bool.{false}
-use mathlib.Core.Logic.{⊎_elim}
 use native.Mathlib.Omega.{arith}
 use lib.Dec.{eqb}
 use lib.ListN.{get_or}
 use borrow.Author.Tests.{eq-eqb, ne_eqb}
-use borrow.Author.Rules.{rules}
 use Rattle.spec_kernel.specs.declared.records.Semaphore.{Semaphore}
 use Rattle.spec_kernel.specs.Records.{no_semaphore}
 use Rattle.spec_time.specs.Time.{pulse}
@@ -30,9 +28,9 @@ periodic c h = ne_eqb (told c).period 0 (λ z. h (period c ∙ z))
 -- where the arms meet: below 0 there is no tick
 meets : (c : Joined-r-gt0) → c.if-r-gt0.left ≡ c.semaphore_at-r.result.ticks - 1
 meets c = elim c.if-r-gt0.branch [
-      then-r-gt0 w ↦ w.left-is
-    | else-r-gt0 w ↦ omega (arith, w.if-r-gt0.false, w.left-is)
-    ]
+  | then-r-gt0 w ↦ w.left-is
+  | else-r-gt0 w ↦ omega (arith, w.if-r-gt0.false, w.left-is)
+]
 
 pub returns-then-r-eq0 : goal.returns-then-r-eq0
 unfolding pulse

@@ -1,12 +1,9 @@
 -- `code_time::pulses` meets its contract: the first i semaphores are done.
-use Prim.Native.Nat.{ℕ, ◌≤◌, ◌-◌}
-use mathlib.Core.Path.{◌≡◌, refl, sym, ap, ◌∙◌}
-use native.Mathlib.Omega.{arith}
-use lib.ListN.{length, length-map}
-use borrow.Author.Rules.{rules}
+use Prim.Native.Nat.{◌≤◌, ◌-◌}
+use mathlib.Core.Path.{◌≡◌}
+use lib.ListN.{length}
 use Rattle.spec_kernel.specs.Sizes.{semaphore_count}
-use Rattle.code_semaphores.specs.Waiting.{with_waiting, Does}
-use Rattle.code_time.proofs.PulseTurns.{pulse_more, pulse_skips}
+use Rattle.code_semaphores.specs.Waiting.{Does}
 use Rattle.spec_time.specs.Time.{pulse_from}
 use Rattle.code_time.proofs.pulses.Given as goal
 

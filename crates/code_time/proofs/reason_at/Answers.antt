@@ -1,5 +1,4 @@
 -- `code_time::reason_at` meets its contract.
-use borrow.Author.Rules.{rules}
 use Rattle.code_time.proofs.reason_at.Goals as goal
 
 pub returns-in-ForSemaphore : goal.returns-in-ForSemaphore

@@ -1,6 +1,5 @@
 -- `code_time::tick` meets its contract: time passes, the periodic semaphores come after it, and the uptime changes nothing in either.
 use mathlib.Core.Path.{ap, ◌∙◌}
-use borrow.Author.Rules.{rules}
 use Rattle.spec_kernel.specs.Sizes.{semaphore_count}
 use Rattle.spec_moves.specs.declared.parts.Threads.{Threads}
 use Rattle.spec_moves.specs.States.{with_threads, with_uptime}

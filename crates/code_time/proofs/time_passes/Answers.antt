@@ -1,5 +1,4 @@
 -- `code_time::time_passes` meets its contract: those that are due wake, then all are aged.
-use borrow.Author.Rules.{rules}
 use Rattle.spec_time.specs.Time.{age_all, time_passes}
 use Rattle.code_time.proofs.time_passes.Goals as goal
 

@@ -1,5 +1,4 @@
 -- `code_time::time_up` meets its contract: what the thread waited for gives the reason.
-use borrow.Author.Rules.{rules}
 use Rattle.spec_time.specs.Time.{time_up}
 use Rattle.code_time.proofs.time_up.Goals as goal
 
