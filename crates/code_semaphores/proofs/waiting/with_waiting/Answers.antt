@@ -1,0 +1,6 @@
+-- `code_semaphores::waiting::with_waiting` meets its contract: the part is put anew.
+use borrow.Author.Rules.{rules}
+use Rattle.code_semaphores.proofs.waiting.with_waiting.Goals as goal
+
+pub returns : goal.returns
+returns c = rw c.with_threads-next.ensures
