@@ -237,6 +237,7 @@ def convert(names, cratedir, crate, path):
         step=re.search(r"\.if-not-([\w]+)",m[1])
         return m[1] if step and step[1] in callees else m[0]
     answers=[re.sub(r"not-(?:true|false) (?:_|[\w.'-]+|\([^()]*\)) ([\w.'-]+\.(?:true|false))(?![\w.'-])",plain,a) for a in answers]
+    answers=[re.sub(r"(\.(?:loop-[\w-]+-test|if-[\w-]+))\.(taken|left)(?![\w'-])",lambda m: m[1]+('.true' if m[2]=='taken' else '.false'),a) for a in answers]
     us=[u for u in uses if not re.search(r'\.(Statement|Tie)\b',u)]
     base=f'Rattle.{crate}.proofs.{rel.replace("/",".")}'
     if shared:

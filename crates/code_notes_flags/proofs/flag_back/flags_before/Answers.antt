@@ -5,7 +5,6 @@ use mathlib.Core.List.{List, [], ◌∷◌}
 use Prim.Native.Nat.{ℕ, ◌<◌}
 use native.Mathlib.Omega.{arith}
 use lib.ListN.{length}
-use borrow.Author.Rules.{rules}
 use Rattle.base_bits.proofs.Laws.{without_small}
 use Rattle.base_queue.specs.Lists.{is_empty}
 use Rattle.spec_notes.specs.Back.{flags_before}

@@ -1,6 +1,5 @@
 -- `code_notes_flags::flag_notes::predicted` meets its contract: the tests are those of the definition, and sixteen bits hold a flag more.
 use native.Mathlib.Omega.{arith}
-use borrow.Author.Rules.{rules}
 use borrow.Author.Tests.{eq-eqb, ne_eqb, lt-ltb, le-ltb}
 use Rattle.base_bits.proofs.Laws.{with_below}
 use Rattle.spec_kernel.specs.Sizes.{flag_count}

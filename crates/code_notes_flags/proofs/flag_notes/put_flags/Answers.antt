@@ -1,5 +1,4 @@
 -- `code_notes_flags::flag_notes::put_flags` meets its contract: a byte where the flags aren't as predicted.
-use borrow.Author.Rules.{rules}
 use borrow.Author.Tests.{eq-eqb, ne_eqb}
 use Rattle.base_bytes.specs.Pens.{puts}
 use Rattle.code_notes_flags.proofs.flag_notes.put_flags.Goals as goal

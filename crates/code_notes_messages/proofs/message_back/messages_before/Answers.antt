@@ -1,15 +1,13 @@
 -- `code_notes_messages::message_back::messages_before` meets its contract: what is still to read are the entries from p on.
-use Prim.Native.Nat.{ℕ, ◌+◌, ◌-◌, ◌≤◌, ◌<◌}
+use Prim.Native.Nat.{ℕ, ◌+◌, ◌≤◌, ◌<◌}
 use mathlib.Core.Path.{◌≡◌, refl, sym, ap, ◌∙◌}
 use mathlib.Core.List.{List}
 use native.Mathlib.Omega.{arith}
 use lib.ListN.{length, get_or, set, length-set}
 use lib.Seq.{set_out}
-use Rattle.base_queue.specs.Queues.{capacity}
 use Rattle.base_rows.specs.Entries.{id_of, row_in, own_in}
-use Rattle.base_rows.proofs.EntriesRead.{entries_from, entries_end}
+use Rattle.base_rows.proofs.EntriesRead.{entries_end}
 use Rattle.spec_kernel.specs.declared.records.Message.{Message}
-use Rattle.spec_kernel.specs.Sizes.{message_count}
 use Rattle.spec_kernel.specs.Records.{no_message}
 use Rattle.spec_calls.specs.declared.call.Call.{Call}
 use Rattle.spec_notes.specs.Rows.{message_from, message_widths}
@@ -56,7 +54,7 @@ filed c messages e =
       rw (e, length-set) l.invariant.0,
       rw (out, length-set) l.invariant.1,
       rw (places, length-set) l.invariant.2,
-      turned (own_in message_widths) (message_read a.c a.runner a.new) a.s.now c.loop-p-test.taken
+      turned (own_in message_widths) (message_read a.c a.runner a.new) a.s.now c.loop-p-test.true
           c.size_in-p.ensures
           old
           (stores a.c a.runner a.new _ _ _ old c.id_in-m.ensures c.message_at.ensures c.row_before-row.ensures.0

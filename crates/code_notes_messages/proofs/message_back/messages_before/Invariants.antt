@@ -1,22 +1,16 @@
 -- `code_notes_messages::message_back::messages_before` meets its contract: what is still to read are the entries from p on.
-use Prim.Native.Nat.{ℕ, ◌+◌, ◌-◌, ◌≤◌, ◌<◌}
-use mathlib.Core.Path.{◌≡◌, refl, sym, ap, ◌∙◌}
+use Prim.Native.Nat.{ℕ, ◌-◌}
+use mathlib.Core.Path.{◌≡◌}
 use mathlib.Core.List.{List}
-use native.Mathlib.Omega.{arith}
-use lib.ListN.{length, get_or, set, length-set}
-use lib.Seq.{set_out}
+use lib.ListN.{length}
 use Rattle.base_queue.specs.Queues.{capacity}
-use Rattle.base_rows.specs.Entries.{id_of, row_in, own_in}
-use Rattle.base_rows.proofs.EntriesRead.{entries_from, entries_end}
+use Rattle.base_rows.specs.Entries.{own_in}
+use Rattle.base_rows.proofs.EntriesRead.{entries_from}
 use Rattle.spec_kernel.specs.declared.records.Message.{Message}
 use Rattle.spec_kernel.specs.Sizes.{message_count}
-use Rattle.spec_kernel.specs.Records.{no_message}
 use Rattle.spec_calls.specs.declared.call.Call.{Call}
-use Rattle.spec_notes.specs.Rows.{message_from, message_widths}
-use Rattle.spec_notes.specs.Predicted.{predicted_message}
-use Rattle.spec_notes.specs.Back.{Filing, message_read, messages_before}
-use Rattle.code_notes_entries.proofs.EntryTurns.{turn_on, turned}
-use borrow.Author.Rules.{rules}
+use Rattle.spec_notes.specs.Rows.{message_widths}
+use Rattle.spec_notes.specs.Back.{message_read, messages_before}
 use Rattle.code_notes_messages.proofs.message_back.messages_before.Given as goal
 
 -- what is filed so far, and that the entries from p on file the rest

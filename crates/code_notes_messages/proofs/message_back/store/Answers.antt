@@ -2,7 +2,6 @@
 use mathlib.Core.Path.{sym}
 use native.Mathlib.Omega.{arith}
 use lib.Seq.{set_out}
-use borrow.Author.Rules.{rules}
 use Rattle.code_notes_messages.proofs.message_back.store.Goals as goal
 
 pub returns-else-i-lt-PLACES : goal.returns-else-i-lt-PLACES

@@ -1,7 +1,6 @@
 -- `code_notes_messages::message_notes::put_changed_message` meets its contract: a message that is the same is passed over.
 use mathlib.Core.Path.{sym, ◌∙◌}
 use Rattle.base_bytes.specs.Pens.{puts}
-use borrow.Author.Rules.{rules}
 use Rattle.code_notes_messages.proofs.message_notes.put_changed_message.Goals as goal
 
 pub returns-then-same : goal.returns-then-same

@@ -1,5 +1,4 @@
 -- `code_notes_messages::message_notes::put_message` meets its contract: the entry of both rows.
-use borrow.Author.Rules.{rules}
 use Rattle.code_notes_messages.proofs.message_notes.put_message.Goals as goal
 
 pub returns : goal.returns

@@ -2,12 +2,11 @@
 use Rattle.spec_kernel.specs.Sizes.{message_count}
 use Rattle.spec_kernel.specs.Records.{no_message}
 use Rattle.spec_notes.specs.Touched.{changed_message}
-use Rattle.spec_notes.specs.Sections.{message_entries}
 use Prim.Native.Nat.{◌<◌}
 use mathlib.Core.Path.{◌≡◌, refl, sym, ◌∙◌}
 use native.Mathlib.Omega.{arith}
-use lib.ListN.{length, length-map}
-use Rattle.base_bytes.specs.Pens.{pen, puts}
+use lib.ListN.{length}
+use Rattle.base_bytes.specs.Pens.{puts}
 use Rattle.base_bytes.proofs.Writing.{puts_append}
 use Rattle.code_notes_entries.proofs.Entries.{entries_next, entries_past, no_message_lem}
 use borrow.Author.Rules.{rules}

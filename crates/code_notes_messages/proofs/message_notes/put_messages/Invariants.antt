@@ -1,16 +1,9 @@
 -- `code_notes_messages::message_notes::put_messages` meets its contract: what is still to write are the entries from i on.
 use Rattle.spec_kernel.specs.Sizes.{message_count}
-use Rattle.spec_kernel.specs.Records.{no_message}
-use Rattle.spec_notes.specs.Touched.{changed_message}
 use Rattle.spec_notes.specs.Sections.{message_entries}
-use Prim.Native.Nat.{◌<◌}
-use mathlib.Core.Path.{◌≡◌, refl, sym, ◌∙◌}
-use native.Mathlib.Omega.{arith}
-use lib.ListN.{length, length-map}
+use mathlib.Core.Path.{◌≡◌}
+use lib.ListN.{length}
 use Rattle.base_bytes.specs.Pens.{pen, puts}
-use Rattle.base_bytes.proofs.Writing.{puts_append}
-use Rattle.code_notes_entries.proofs.Entries.{entries_next, entries_past, no_message_lem}
-use borrow.Author.Rules.{rules}
 use Rattle.code_notes_messages.proofs.message_notes.put_messages.Given as goal
 
 abbrev pub invariant-loop-left : goal.invariant-loop-left

@@ -1,7 +1,6 @@
 -- `code_notes_messages::message_rows::from_row` meets its contract: each field is cut to its width.
 use Rattle.spec_notes.specs.Rows.{message_widths, message_from}
 use Rattle.code_notes_entries.proofs.RowFields.{fitted_at}
-use borrow.Author.Rules.{rules}
 use Rattle.code_notes_messages.proofs.message_rows.from_row.Goals as goal
 
 pub returns : goal.returns

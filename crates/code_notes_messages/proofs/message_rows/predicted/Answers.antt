@@ -1,7 +1,6 @@
 -- `code_notes_messages::message_rows::predicted` meets its contract: a new message, and any other.
 use borrow.Author.Tests.{ne_eqb}
 use Rattle.spec_notes.specs.Predicted.{predicted_message}
-use borrow.Author.Rules.{rules}
 use Rattle.code_notes_messages.proofs.message_rows.predicted.Goals as goal
 
 pub returns-then-c-eq24 : goal.returns-then-c-eq24

@@ -1,6 +1,5 @@
 -- `code_notes_messages::message_rows::same` meets its contract: their rows are the same.
 use Rattle.spec_notes.specs.Touched.{same_message}
-use borrow.Author.Rules.{rules}
 use Rattle.code_notes_messages.proofs.message_rows.same.Goals as goal
 
 pub returns : goal.returns
