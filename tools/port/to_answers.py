@@ -97,7 +97,7 @@ def inline_places(text):
     def take(m):
         if norm(m[1])!=norm(m[2]): return m[0]
         rest=m[4].strip()
-        if not re.fullmatch(r"\(*(?:[\w'₀-₉-]+ )*\(*"+re.escape(m[3])+r"(?:\.before|\))*",rest): return m[0]
+        if not re.fullmatch(r"(?:\(*[\w'₀-₉-]+ )*\(*"+re.escape(m[3])+r"(?:\.before|\))*",rest): return m[0]
         al[norm(m[1])]=(m[3],rest); return ''
     new=ALIAS.sub(take,text)
     if not al: return text
@@ -182,7 +182,7 @@ def convert(names, cratedir, crate, path):
             if n in inv or n in goals or n in shared: continue
             if re.search(r"(?<![\w.'₀-₉-])"+re.escape(n)+r"(?![\w'₀-₉-])",invtext):
                 shared.append(n); invtext+='\n'+code(n); grew=True
-    answers=[];invs=[];usedplaces=set()
+    answers=[];invs=[];usedplaces=set();wants=set()
     for nm,b in decl.items():
         comments=[l for l in b if l.startswith('--')]
         lines=[l for l in b if not l.startswith('--')]
@@ -211,6 +211,9 @@ def convert(names, cratedir, crate, path):
             arm=re.search(r"-in-([\w-]+?)(?:-\d+)?$",new)
             ex=re.sub(re.escape(c)+r"\.(?:enum_told|c)-(in-[A-Z]\w*)-\d+\.given\.1",c+r".\1.is",ex)
             ex=re.sub(r"(\.in-[\w-]+)\.keys\d+",r"\1.is",ex)
+            if re.search(r"\.in_default\.rest\b",ex):
+                # none of a match's numbers: the search has what says so
+                ex='search (tests, rules)'; wants.update(('tests','rules'))
             if arm: ex=re.sub(re.escape(c)+r"\.(?:enum_told|c)[\w-]*\.given\.1",c+".in-"+arm[1]+".is",ex)
             answers.append('\n'.join(comments+[f'pub {new} : goal.{new}']+unf+[f'{new} {" ".join([c]+[q for q in params[1:] if q != "κs"])} ='+(' ' if '\n' not in ex else '\n    ')+ex.strip()]))
         else:
@@ -240,6 +243,11 @@ def convert(names, cratedir, crate, path):
         return m[1] if step and step[1] in callees else m[0]
     answers=[re.sub(r"not-(?:true|false) (?:_|[\w.'-]+|\([^()]*\)) ([\w.'-]+\.(?:true|false))(?![\w.'-])",plain,a) for a in answers]
     answers=[re.sub(r"(\.(?:loop-[\w-]+-test|if-[\w-]+))\.(taken|left)(?![\w'-])",lambda m: m[1]+('.true' if m[2]=='taken' else '.false'),a) for a in answers]
+    for w,mod in (('rules','borrow.Author.Rules'),('tests','borrow.Author.Tests')):
+        if w in wants and not any(re.search(r"[{, ]"+w+r"[,}]",u) for u in uses):
+            k=next((k for k,u in enumerate(uses) if u.startswith(f'use {mod}.{{')),None)
+            if k is None: uses.append(f'use {mod}.{{{w}}}')
+            else: uses[k]=uses[k].replace('.{','.{'+w+', ')
     us=[u for u in uses if not re.search(r'\.(Statement|Tie)\b',u)]
     base=f'Rattle.{crate}.proofs.{rel.replace("/",".")}'
     if shared:
@@ -359,4 +367,4 @@ def main():
             rel=p[len(os.path.join(cratedir,'proofs'))+1:-len('/Proof.antt')]
             if only and rel not in only: continue
             for x in convert(names,cratedir,crate,p): print(x)
-main()
+if __name__=='__main__': main()
