@@ -1,7 +1,7 @@
 #!/usr/bin/env python3
 """drops from .antt files of function proofs the imports that the text doesn't name: prune.py FILE.."""
 import re,sys
-WORD=r"[^\s(){}.;,@\"«»\[\]]+"
+WORD=r"\[\]|[^\s(){}.;,@\"«»\[\]]+"
 for p in sys.argv[1:]:
     s=open(p,encoding='utf8').read()
     # one use item may span lines

@@ -1,7 +1,7 @@
 -- `code_effects::effect` meets its contract: each arm does what the table has at its kind.
 use Prim.Native.Nat.{ℕ, ◌≤◌, ◌<◌}
 use mathlib.Core.Path.{◌≡◌, refl}
-use mathlib.Core.List.{List, ◌∷◌}
+use mathlib.Core.List.{[], List, ◌∷◌}
 use mathlib.Core.Logic.{⊎_elim, inl, inr}
 use native.Mathlib.Omega.{arith}
 use Rattle.spec_effects.proofs.ByKind.{does_past}

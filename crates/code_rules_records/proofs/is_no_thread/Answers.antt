@@ -1,7 +1,7 @@
 -- `code_rules_records::is_no_thread` meets its contract: the first field that is not 0 answers, and the last where none did.
 use mathlib.Core.Path.{◌≡◌}
 use mathlib.Core.Bool.{true, and-true}
-use mathlib.Core.List.{◌∷◌}
+use mathlib.Core.List.{[], ◌∷◌}
 use native.Mathlib.Omega.{arith}
 use lib.Dec.{eqb}
 use borrow.Author.Tests.{eq-eqb, ne_eqb}
