@@ -89,13 +89,42 @@ def fn_params(cratedir, rel):
                 return [re.match(r'\s*(?:mut\s+)?([A-Za-z_]\w*)',q)[1] for q in m[1].split(',') if q.strip()]
     return []
 
+ALIAS=re.compile(r"(?:^--[^\n]*\n)*^(?:abbrev )?([\w'₀-₉-]+) : tie\.[A-Z][^→\n]* → tie\.[A-Z][^→\n]*\n([\w'₀-₉-]+) ([\w'₀-₉]+) = ([^\n]*)\n(?=\n|\Z)",re.M)
+
+def inline_places(text):
+    """a helper that only goes from a place to an earlier one is written out: fields are flat now"""
+    al={}
+    def take(m):
+        if norm(m[1])!=norm(m[2]): return m[0]
+        rest=m[4].strip()
+        if not re.fullmatch(r"(?:\(*[\w'₀-₉-]+ )*\(*"+re.escape(m[3])+r"(?:\.before|\))*",rest): return m[0]
+        al[norm(m[1])]=(m[3],rest); return ''
+    new=ALIAS.sub(take,text)
+    if not al: return text
+    USE=re.compile(r"\(([\w'₀-₉-]+) ([\w'₀-₉-]+(?:\.before)*)\)((?:\.before)*)")
+    def put(m):
+        if norm(m[1]) not in al: return m[0]
+        v,rest=al[norm(m[1])]
+        rest=re.sub(r"(?<![\w.'₀-₉-])"+re.escape(v)+r"(?![\w'₀-₉-])",m[2],rest)
+        if re.search(r"[ (]",rest) and not rest.startswith('('): rest='('+rest+')'
+        return rest+m[3]
+    while True:
+        t=USE.sub(put,new)
+        t=re.sub(r"let ([\w'₀-₉-]+) = ([\w'₀-₉-]+) ([\w'₀-₉-]+(?:\.before)*) in",lambda m: f'let {m[1]} = ({m[2]} {m[3]}) in' if norm(m[2]) in al else m[0],t)
+        t=re.sub(r"let ([\w'₀-₉-]+) = ([\w'₀-₉-]+) \(([\w'₀-₉-]+ [\w'₀-₉-]+(?:\.before)*)\) in",lambda m: f'let {m[1]} = ({m[2]} ({m[3]})) in' if norm(m[2]) in al else m[0],t)
+        if t==new: break
+        new=t
+    for n in al:
+        if re.search(r"(?<![\w.'₀-₉-])"+n.replace('-','[-_]')+r" ",new): print('an alias stays:',n)
+    return new
+
 def convert(names, cratedir, crate, path):
     # path: proofs/.../Proof.antt
     rel=path[len(os.path.join(cratedir,'proofs'))+1:-len('/Proof.antt')]
     key=f"Rattle-{crate}-proofs.{rel.replace('/','.')}.Lts"
     if key not in names: return [f'{rel}: not in names.json']
     fn=Fn(names[key])
-    text=open(path,encoding='utf8').read()
+    text=inline_places(open(path,encoding='utf8').read())
     params=fn_params(cratedir,rel)
     text=re.sub(r'\bargs\.t(\d+)\b',lambda m: 'args.'+params[int(m[1])-1] if int(m[1])<=len(params) else m[0],text)
     lines_=text.split('\n')
@@ -143,7 +172,8 @@ def convert(names, cratedir, crate, path):
                 if m and m[1] in byold: goals[o]=byold[m[1]]
                 elif m and m[1].replace('_','-') in byold: goals[o]=byold[m[1].replace('_','-')]
     # helpers that invariants name
-    invtext='\n'.join('\n'.join(decl[n]) for n in inv)
+    code=lambda n: '\n'.join(l for l in decl[n] if not l.startswith('--'))
+    invtext='\n'.join(code(n) for n in inv)
     shared=[]
     grew=True
     while grew:
@@ -151,8 +181,8 @@ def convert(names, cratedir, crate, path):
         for n in decl:
             if n in inv or n in goals or n in shared: continue
             if re.search(r"(?<![\w.'₀-₉-])"+re.escape(n)+r"(?![\w'₀-₉-])",invtext):
-                shared.append(n); invtext+='\n'+'\n'.join(decl[n]); grew=True
-    answers=[];invs=[];usedplaces=set()
+                shared.append(n); invtext+='\n'+code(n); grew=True
+    answers=[];invs=[];usedplaces=set();wants=set()
     for nm,b in decl.items():
         comments=[l for l in b if l.startswith('--')]
         lines=[l for l in b if not l.startswith('--')]
@@ -180,6 +210,10 @@ def convert(names, cratedir, crate, path):
             ex=re.sub(r"(\.in_default[\w-]*)\.rest\b",r"\1.in_default-own.rest",ex)
             arm=re.search(r"-in-([\w-]+?)(?:-\d+)?$",new)
             ex=re.sub(re.escape(c)+r"\.(?:enum_told|c)-(in-[A-Z]\w*)-\d+\.given\.1",c+r".\1.is",ex)
+            ex=re.sub(r"(\.in-[\w-]+)\.keys\d+",r"\1.is",ex)
+            if re.search(r"\.in_default\.rest\b",ex):
+                # none of a match's numbers: the search has what says so
+                ex='search (tests, rules)'; wants.update(('tests','rules'))
             if arm: ex=re.sub(re.escape(c)+r"\.(?:enum_told|c)[\w-]*\.given\.1",c+".in-"+arm[1]+".is",ex)
             answers.append('\n'.join(comments+[f'pub {new} : goal.{new}']+unf+[f'{new} {" ".join([c]+[q for q in params[1:] if q != "κs"])} ='+(' ' if '\n' not in ex else '\n    ')+ex.strip()]))
         else:
@@ -208,6 +242,12 @@ def convert(names, cratedir, crate, path):
         step=re.search(r"\.if-not-([\w]+)",m[1])
         return m[1] if step and step[1] in callees else m[0]
     answers=[re.sub(r"not-(?:true|false) (?:_|[\w.'-]+|\([^()]*\)) ([\w.'-]+\.(?:true|false))(?![\w.'-])",plain,a) for a in answers]
+    answers=[re.sub(r"(\.(?:loop-[\w-]+-test|if-[\w-]+))\.(taken|left)(?![\w'-])",lambda m: m[1]+('.true' if m[2]=='taken' else '.false'),a) for a in answers]
+    for w,mod in (('rules','borrow.Author.Rules'),('tests','borrow.Author.Tests')):
+        if w in wants and not any(re.search(r"[{, ]"+w+r"[,}]",u) for u in uses):
+            k=next((k for k,u in enumerate(uses) if u.startswith(f'use {mod}.{{')),None)
+            if k is None: uses.append(f'use {mod}.{{{w}}}')
+            else: uses[k]=uses[k].replace('.{','.{'+w+', ')
     us=[u for u in uses if not re.search(r'\.(Statement|Tie)\b',u)]
     base=f'Rattle.{crate}.proofs.{rel.replace("/",".")}'
     if shared:
@@ -314,6 +354,7 @@ def inv_text(fn,nm,lines,problems):
         if i<n: mp[pn]=('l.initial.' if changed[i] else 'l.')+vars_[i]
         else: mp[pn]='l.'+want[i]
     def sub(q):
+        if re.search(r"[{;]\s*$",expr[:q.start()]) and re.match(r"\s*=",expr[q.end():]): return q[0]
         return mp.get(q[0],q[0])
     expr=re.sub(r"(?<![\w.'₀-₉-])[A-Za-z][\w'₀-₉-]*",sub,expr)
     return [f'abbrev pub {new} : goal.{new}']+unf+[f'{new} l ={expr}']
@@ -326,4 +367,4 @@ def main():
             rel=p[len(os.path.join(cratedir,'proofs'))+1:-len('/Proof.antt')]
             if only and rel not in only: continue
             for x in convert(names,cratedir,crate,p): print(x)
-main()
+if __name__=='__main__': main()

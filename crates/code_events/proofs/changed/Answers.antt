@@ -1,6 +1,5 @@
 -- `code_events::changed` meets its contract: by the kind.
 use mathlib.Core.Logic.{⊎_elim, inl, inr}
-use borrow.Author.Rules.{rules}
 use borrow.Author.Tests.{ne_eqb}
 use Rattle.spec_events.specs.Events.{load_event, set_bit, clear_bit}
 use Rattle.code_events.proofs.changed.Goals as goal

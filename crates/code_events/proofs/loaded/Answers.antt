@@ -1,7 +1,7 @@
 -- `code_events::loaded` meets its contract: the event is stored, and past the last one nothing is.
-use mathlib.Core.Path.{◌≡◌, sym, ◌∙◌}
+use mathlib.Core.Path.{◌≡◌}
 use native.Mathlib.Omega.{arith}
-use lib.ListN.{length, length-map}
+use lib.ListN.{length}
 use lib.Seq.{set_out}
 use borrow.Author.Rules.{rules}
 use Rattle.spec_kernel.specs.Sizes.{event_count}

@@ -1,6 +1,5 @@
 -- `code_events::pend_event` meets its contract: whether it is TRUE decides.
 use mathlib.Core.Path.{◌≡◌, sym, ap, ◌∙◌}
-use borrow.Author.Rules.{rules}
 use Rattle.spec_kernel.specs.Records.{event}
 use Rattle.spec_kernel.specs.Truth.{is_true}
 use Rattle.spec_events.specs.Events.{pend_event}

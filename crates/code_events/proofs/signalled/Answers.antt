@@ -1,6 +1,5 @@
 -- `code_events::signalled` meets its contract.
 use mathlib.Core.Path.{◌∙◌}
-use borrow.Author.Rules.{rules}
 use Rattle.code_events.proofs.signalled.Goals as goal
 
 pub returns : goal.returns

@@ -1,9 +1,7 @@
 -- `code_events::wakes` meets its contract: 255 is nobody.
 use mathlib.Core.Path.{◌≡◌, refl, sym, ◌∙◌}
-use mathlib.Core.Bool.{true, false, not}
-use lib.ListN.{length, length-map}
-use borrow.Author.Tests.{not-true, not-false}
-use borrow.Author.Rules.{rules}
+use mathlib.Core.Bool.{true, false}
+use lib.ListN.{length}
 use Rattle.spec_kernel.specs.Sizes.{thread_count}
 use Rattle.code_kernel_find.proofs.OfHomes.{first_empty}
 use Rattle.code_events.proofs.wakes.Goals as goal

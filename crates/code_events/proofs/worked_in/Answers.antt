@@ -1,9 +1,7 @@
 -- `code_events::worked_in` meets its contract: the first i events are worked out.
-use Prim.Native.Nat.{ℕ, ◌≤◌, ◌-◌}
-use mathlib.Core.Path.{◌≡◌, refl, sym, ap, ◌∙◌}
+use Prim.Native.Nat.{ℕ, ◌-◌}
+use mathlib.Core.Path.{refl, sym, ap, ◌∙◌}
 use native.Mathlib.Omega.{arith}
-use borrow.Author.Rules.{rules}
-use Rattle.spec_kernel.specs.Sizes.{event_count}
 use Rattle.spec_events.specs.Events.{work_out_from}
 use Rattle.code_events.proofs.Works.{work_true, work_false}
 use Rattle.code_events.proofs.worked_in.Goals as goal

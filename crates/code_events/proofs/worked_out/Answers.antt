@@ -1,5 +1,4 @@
 -- `code_events::worked_out` meets its contract: the part of the threads is worked out and put anew.
-use borrow.Author.Rules.{rules}
 use Rattle.spec_events.specs.Events.{worked_out}
 use Rattle.code_events.proofs.worked_out.Goals as goal
 

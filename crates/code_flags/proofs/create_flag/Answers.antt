@@ -1,6 +1,5 @@
 -- `code_flags::create_flag` meets its contract.
 use Prim.Native.Nat.{◌<◌, ◌^◌}
-use borrow.Author.Rules.{rules}
 use Rattle.spec_flags.specs.Flags.{create_flag}
 use Rattle.code_flags.proofs.Words.{made_fits}
 use Rattle.code_flags.proofs.create_flag.Goals as goal

@@ -1,6 +1,5 @@
 -- `code_flags::destroy_flag` meets its contract.
 use Prim.Native.Nat.{◌<◌, ◌^◌}
-use borrow.Author.Rules.{rules}
 use Rattle.base_bits.proofs.Laws.{without_small}
 use Rattle.spec_flags.specs.Flags.{destroy_flag}
 use Rattle.code_flags.proofs.destroy_flag.Goals as goal

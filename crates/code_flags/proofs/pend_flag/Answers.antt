@@ -1,6 +1,5 @@
 -- `code_flags::pend_flag` meets its contract: the level is taken off, and then the caller blocks.
 use mathlib.Core.Path.{ap, ◌∙◌}
-use borrow.Author.Rules.{rules}
 use Rattle.spec_kernel.specs.declared.records.Condition.TheVariants.{ForFlag}
 use Rattle.spec_kernel.specs.declared.records.Kernel.{Kernel}
 use Rattle.spec_threads.specs.Threads.{block}

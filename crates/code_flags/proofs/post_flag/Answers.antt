@@ -1,5 +1,4 @@
 -- `code_flags::post_flag` meets its contract: the flag's queue is emptied.
-use borrow.Author.Rules.{rules}
 use Rattle.spec_flags.specs.Flags.{post_flag}
 use Rattle.code_flags.proofs.post_flag.Goals as goal
 

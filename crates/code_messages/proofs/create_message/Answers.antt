@@ -1,5 +1,4 @@
 -- `code_messages::create_message` meets its contract: the lowest free id gets a new record.
-use borrow.Author.Rules.{rules}
 use Rattle.spec_messages.specs.Messages.{create_message}
 use Rattle.code_messages.proofs.create_message.Goals as goal
 

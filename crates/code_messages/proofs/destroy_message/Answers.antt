@@ -1,5 +1,4 @@
 -- `code_messages::destroy_message` meets its contract: it gets the record of no message.
-use borrow.Author.Rules.{rules}
 use Rattle.spec_messages.specs.Messages.{destroy_message}
 use Rattle.code_messages.proofs.destroy_message.Goals as goal
 

@@ -1,5 +1,4 @@
 -- `code_messages::hand_over` meets its contract: the message changes hands, and its recipient wakes.
-use borrow.Author.Rules.{rules}
 use Rattle.spec_messages.specs.Messages.{hand_over}
 use Rattle.code_messages.proofs.hand_over.Goals as goal
 

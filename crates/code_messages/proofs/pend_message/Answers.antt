@@ -1,7 +1,6 @@
 -- `code_messages::pend_message` meets its contract: 255 says that there is none.
 use mathlib.Core.Path.{sym, ◌∙◌}
 use borrow.Author.Tests.{eq-eqb, ne_eqb}
-use borrow.Author.Rules.{rules}
 use Rattle.spec_messages.specs.Messages.{pend_message}
 use Rattle.code_messages.proofs.pend_message.Goals as goal
 

@@ -1,6 +1,5 @@
 -- `code_messages::post_message` meets its contract: what the recipient waits for decides.
 use mathlib.Core.Path.{◌≡◌, sym, ap, ◌∙◌}
-use borrow.Author.Rules.{rules}
 use Rattle.spec_kernel.specs.declared.records.Thread.{Thread}
 use Rattle.spec_kernel.specs.Records.{thread}
 use Rattle.spec_kernel.specs.Conditions.{awaits}

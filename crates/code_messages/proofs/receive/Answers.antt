@@ -1,5 +1,4 @@
 -- `code_messages::receive` meets its contract: its record is put anew.
-use borrow.Author.Rules.{rules}
 use Rattle.spec_messages.specs.Messages.{receive}
 use Rattle.code_messages.proofs.receive.Goals as goal
 

@@ -1,5 +1,4 @@
 -- `code_threads::block` meets its contract: the runner's record is put anew.
-use borrow.Author.Rules.{rules}
 use Rattle.spec_threads.specs.Threads.{block}
 use Rattle.code_threads.proofs.block.Goals as goal
 

@@ -1,5 +1,4 @@
 -- `code_threads::create_thread` meets its contract: the lowest free id gets a new record.
-use borrow.Author.Rules.{rules}
 use Rattle.spec_threads.specs.Threads.{create_thread}
 use Rattle.code_threads.proofs.create_thread.Goals as goal
 

@@ -1,5 +1,4 @@
 -- `code_threads::destroy_thread` meets its contract: its messages are freed, and it gets the record of no thread.
-use borrow.Author.Rules.{rules}
 use Rattle.spec_threads.specs.Threads.{destroy_thread}
 use Rattle.code_threads.proofs.destroy_thread.Goals as goal
 

@@ -1,5 +1,4 @@
 -- `code_threads::free_messages` meets its contract: the records are freed, and the queue keeps the others.
-use borrow.Author.Rules.{rules}
 use Rattle.spec_threads.specs.Threads.{free_messages}
 use Rattle.code_threads.proofs.free_messages.Goals as goal
 

@@ -1,6 +1,5 @@
 -- `code_threads::freed_from` meets its contract.
 use mathlib.Core.Path.{sym, ◌∙◌}
-use borrow.Author.Rules.{rules}
 use Rattle.code_threads.proofs.freed_from.Goals as goal
 
 pub returns-then-owns : goal.returns-then-owns

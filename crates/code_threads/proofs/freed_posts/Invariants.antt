@@ -1,15 +1,12 @@
 -- `code_threads::freed_posts` meets its contract: a holds those of the i places passed that t doesn't own, and k says how many they are.
-use Prim.Native.Nat.{ℕ, ◌+◌, ◌≤◌, ◌-◌}
-use mathlib.Core.Path.{◌≡◌, refl, sym}
-use mathlib.Core.Bool.{Bool, not, cond}
-use mathlib.Core.List.{List, [], ◌∷◌, ◌++◌, append-nil}
-use native.Mathlib.Omega.{arith}
-use lib.ListN.{length, take, get_or, length-append}
-use borrow.Author.Rules.{rules}
+use Prim.Native.Nat.{ℕ, ◌≤◌, ◌-◌}
+use mathlib.Core.Path.{◌≡◌}
+use mathlib.Core.Bool.{Bool, not}
+use mathlib.Core.List.{List}
+use lib.ListN.{length, take, get_or}
 use Rattle.base_queue.specs.Lists.{keep}
 use Rattle.base_queue.specs.Queues.{pad}
-use Rattle.base_queue.proofs.Lists.{keep_next}
-use Rattle.base_queue.proofs.Queues.{Walk, walk_start, sized_items, pad_push, queue_eq}
+use Rattle.base_queue.proofs.Queues.{Walk}
 use Rattle.spec_kernel.specs.declared.records.Message.{Message}
 use Rattle.spec_kernel.specs.Records.{no_message}
 use Rattle.spec_threads.specs.Threads.{owns}

@@ -1,11 +1,9 @@
 -- `code_threads::freed_records` meets its contract: the first m messages are as they will be, the others as they were.
-use Prim.Native.Nat.{◌≤◌, ◌-◌}
-use mathlib.Core.Path.{◌≡◌, refl, ◌∙◌}
-use mathlib.Core.List.{map, ◌++◌}
+use Prim.Native.Nat.{◌-◌}
+use mathlib.Core.Path.{refl, ◌∙◌}
 use native.Mathlib.Omega.{arith}
-use lib.ListN.{length, take, drop, length-set}
+use lib.ListN.{length-set}
 use borrow.Author.Rules.{rules}
-use Rattle.spec_kernel.specs.Sizes.{message_count}
 use Rattle.spec_kernel.specs.Records.{no_message}
 use Rattle.spec_threads.specs.Threads.{freed_from}
 use Rattle.base_queue.proofs.Maps.{map_next, map_end}

@@ -1,5 +1,4 @@
 -- `code_threads::set_priority` meets its contract: the thread's record is put anew.
-use borrow.Author.Rules.{rules}
 use Rattle.spec_threads.specs.Threads.{set_priority}
 use Rattle.code_threads.proofs.set_priority.Goals as goal
 

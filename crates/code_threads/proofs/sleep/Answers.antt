@@ -1,5 +1,4 @@
 -- `code_threads::sleep` meets its contract.
-use borrow.Author.Rules.{rules}
 use Rattle.spec_threads.specs.Threads.{sleep}
 use Rattle.code_threads.proofs.sleep.Goals as goal
 

@@ -1,5 +1,4 @@
 -- `code_threads::woken` meets its contract: the thread's record is put anew.
-use borrow.Author.Rules.{rules}
 use Rattle.code_threads.proofs.woken.Goals as goal
 
 pub returns : goal.returns

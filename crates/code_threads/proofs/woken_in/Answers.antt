@@ -2,9 +2,8 @@
 -- home of the member at i; past the records that is the home of no thread.
 use Prim.Native.Nat.{◌-◌}
 use mathlib.Core.Path.{◌≡◌, sym, ap, ◌∙◌}
-use mathlib.Core.Logic.{⊎_elim}
 use native.Mathlib.Omega.{arith}
-use lib.ListN.{length, length-map, get_or}
+use lib.ListN.{length, get_or}
 use borrow.Author.Tests.{eq-eqb, ne_eqb}
 use borrow.Author.Rules.{rules}
 use Rattle.base_queue.specs.Queues.{capacity}
@@ -14,7 +13,7 @@ use Rattle.spec_kernel.specs.Places.{home_of}
 use Rattle.spec_moves.proofs.Joins.{past_end}
 use Rattle.code_kernel_find.proofs.OfHomes.{is_home}
 use Rattle.spec_threads.specs.Threads.{wake_in, woken_in}
-use Rattle.code_threads.proofs.Walks.{Walked, walk_starts, walk_does, walk_skips, walk_ends}
+use Rattle.code_threads.proofs.Walks.{walk_starts, walk_does, walk_skips, walk_ends}
 use Rattle.code_threads.proofs.woken_in.Goals as goal
 use Rattle.code_threads.proofs.woken_in.Goals.{Joined-t-lt-THREAD_IDS, then-t-lt-THREAD_IDS, else-t-lt-THREAD_IDS}
 
@@ -27,8 +26,8 @@ meets c =
     let l = c.args.p.records in
     let e : length l ≡ thread_count = c.well_formed.0.1.1.0.1.0.1 in
     elim c.if-t-lt-THREAD_IDS.branch [
-      then-t-lt-THREAD_IDS w ↦ w.home-is ∙ w.home_of-home.ensures
-    | else-t-lt-THREAD_IDS w ↦ w.home-is ∙ sym (ap home_of (past_end l no_thread e (omega (arith, w.if-t-lt-THREAD_IDS.false))))
+      | then-t-lt-THREAD_IDS w ↦ w.home-is ∙ w.home_of-home.ensures
+      | else-t-lt-THREAD_IDS w ↦ w.home-is ∙ sym (ap home_of (past_end l no_thread e (omega (arith, w.if-t-lt-THREAD_IDS.false))))
     ]
 
 pub loop-i-init : goal.loop-i-init

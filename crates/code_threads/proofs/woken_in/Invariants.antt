@@ -1,20 +1,9 @@
 -- `code_threads::woken_in` meets its contract: of the i places passed, those whose home is h have woken. Where the arms meet, `home` is the
 -- home of the member at i; past the records that is the home of no thread.
 use Prim.Native.Nat.{◌-◌}
-use mathlib.Core.Path.{◌≡◌, sym, ap, ◌∙◌}
-use mathlib.Core.Logic.{⊎_elim}
-use native.Mathlib.Omega.{arith}
-use lib.ListN.{length, length-map, get_or}
-use borrow.Author.Tests.{eq-eqb, ne_eqb}
-use borrow.Author.Rules.{rules}
-use Rattle.base_queue.specs.Queues.{capacity}
-use Rattle.spec_kernel.specs.Sizes.{thread_count}
-use Rattle.spec_kernel.specs.Records.{no_thread}
-use Rattle.spec_kernel.specs.Places.{home_of}
-use Rattle.spec_moves.proofs.Joins.{past_end}
 use Rattle.code_kernel_find.proofs.OfHomes.{is_home}
-use Rattle.spec_threads.specs.Threads.{wake_in, woken_in}
-use Rattle.code_threads.proofs.Walks.{Walked, walk_starts, walk_does, walk_skips, walk_ends}
+use Rattle.spec_threads.specs.Threads.{wake_in}
+use Rattle.code_threads.proofs.Walks.{Walked}
 use Rattle.code_threads.proofs.woken_in.Given as goal
 
 abbrev pub invariant-loop-i : goal.invariant-loop-i

@@ -1,5 +1,4 @@
 -- `code_threads::yielded` meets its contract: the runner takes its places anew.
-use borrow.Author.Rules.{rules}
 use Rattle.spec_threads.specs.Threads.{yielded}
 use Rattle.code_threads.proofs.yielded.Goals as goal
 

@@ -1,6 +1,5 @@
 -- `code_semaphores::semaphores::counted` meets its contract.
 use borrow.Author.Tests.{lt-ltb, le-ltb}
-use borrow.Author.Rules.{rules}
 use Rattle.code_semaphores.proofs.semaphores.counted.Goals as goal
 
 pub returns-then-wakes : goal.returns-then-wakes

@@ -1,5 +1,4 @@
 -- `code_semaphores::semaphores::create_semaphore` meets its contract: the lowest free id gets a new record.
-use borrow.Author.Rules.{rules}
 use Rattle.spec_semaphores.specs.Semaphores.{create_semaphore}
 use Rattle.code_semaphores.proofs.semaphores.create_semaphore.Goals as goal
 

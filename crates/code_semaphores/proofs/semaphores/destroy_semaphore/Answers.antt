@@ -1,5 +1,4 @@
 -- `code_semaphores::semaphores::destroy_semaphore` meets its contract: it gets the record of no semaphore.
-use borrow.Author.Rules.{rules}
 use Rattle.spec_semaphores.specs.Semaphores.{destroy_semaphore}
 use Rattle.code_semaphores.proofs.semaphores.destroy_semaphore.Goals as goal
 

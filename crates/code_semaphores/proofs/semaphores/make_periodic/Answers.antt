@@ -1,5 +1,4 @@
 -- `code_semaphores::semaphores::make_periodic` meets its contract: its record is put anew.
-use borrow.Author.Rules.{rules}
 use Rattle.spec_semaphores.specs.Semaphores.{make_periodic}
 use Rattle.code_semaphores.proofs.semaphores.make_periodic.Goals as goal
 

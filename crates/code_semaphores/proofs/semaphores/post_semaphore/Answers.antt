@@ -1,6 +1,5 @@
 -- `code_semaphores::semaphores::post_semaphore` meets its contract: the post, on the part that it touches.
 use mathlib.Core.Path.{ap, ◌∙◌}
-use borrow.Author.Rules.{rules}
 use Rattle.code_semaphores.specs.declared.waiting.Waiting.{Waiting}
 use Rattle.code_semaphores.specs.Waiting.{with_waiting}
 use Rattle.spec_semaphores.specs.Semaphores.{post, post_semaphore}

@@ -1,5 +1,4 @@
 -- `code_semaphores::semaphores::remove_periodic` meets its contract: its record is put anew.
-use borrow.Author.Rules.{rules}
 use Rattle.spec_semaphores.specs.Semaphores.{remove_periodic}
 use Rattle.code_semaphores.proofs.semaphores.remove_periodic.Goals as goal
 

@@ -1,9 +1,8 @@
 -- `code_semaphores::waiting::stored` meets its contract: past the last semaphore nothing is stored.
-use mathlib.Core.Path.{◌≡◌, sym, ◌∙◌}
+use mathlib.Core.Path.{◌≡◌}
 use native.Mathlib.Omega.{arith}
-use lib.ListN.{length, length-map}
+use lib.ListN.{length}
 use lib.Seq.{set_out}
-use borrow.Author.Rules.{rules}
 use Rattle.spec_kernel.specs.Sizes.{semaphore_count}
 use Rattle.code_semaphores.proofs.waiting.stored.Goals as goal
 

@@ -1,5 +1,4 @@
 -- `code_semaphores::waiting::waiting_of` meets its contract: the part is taken out.
-use borrow.Author.Rules.{rules}
 use Rattle.code_semaphores.proofs.waiting.waiting_of.Goals as goal
 
 pub returns : goal.returns

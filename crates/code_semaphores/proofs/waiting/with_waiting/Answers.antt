@@ -1,5 +1,4 @@
 -- `code_semaphores::waiting::with_waiting` meets its contract: the part is put anew.
-use borrow.Author.Rules.{rules}
 use Rattle.code_semaphores.proofs.waiting.with_waiting.Goals as goal
 
 pub returns : goal.returns

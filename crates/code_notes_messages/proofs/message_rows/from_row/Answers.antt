@@ -1,0 +1,19 @@
+-- `code_notes_messages::message_rows::from_row` meets its contract: each field is cut to its width.
+use Rattle.spec_notes.specs.Rows.{message_widths, message_from}
+use Rattle.code_notes_entries.proofs.RowFields.{fitted_at}
+use Rattle.code_notes_messages.proofs.message_rows.from_row.Goals as goal
+
+pub returns : goal.returns
+unfolding message_from
+returns c =
+    rw (
+      c.word.ensures,
+      c.word-2.ensures,
+      fitted_at message_widths c.args.row 0,
+      fitted_at message_widths c.args.row 1,
+      fitted_at message_widths c.args.row 2,
+      fitted_at message_widths c.args.row 3,
+      fitted_at message_widths c.args.row 4,
+      fitted_at message_widths c.args.row 5,
+      fitted_at message_widths c.args.row 6,
+    )
