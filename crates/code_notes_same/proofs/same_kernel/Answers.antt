@@ -2,22 +2,14 @@
 use mathlib.Core.Path.{◌≡◌}
 use mathlib.Core.Bool.{Bool, true}
 use mathlib.Core.Logic.{◌↔◌}
-use borrow.Author.Rules.{rules}
 use Rattle.spec_kernel.specs.declared.records.Kernel.{Kernel}
 use Rattle.spec_notes.specs.Same.{same_kernel, same_asked}
 use Rattle.spec_notes.proofs.SameStates.{same_exactly}
-use Rattle.code_notes_same.proofs.same_kernel.Statement.{statement}
-use Rattle.code_notes_same.proofs.same_kernel.Tie as tie
+use Rattle.code_notes_same.proofs.same_kernel.Goals as goal
 
 told : (a b : Kernel) (r : Bool) → r ≡ same_kernel a b → (r ≡ same_kernel a b) × ((r ≡ true) ↔ (a ≡ b))
 told a b r e = (e, rw e (same_exactly a b))
 
-same-asked-requires : tie.Need-same-asked-requires
-same-asked-requires c κs = search rules
-
-returns : tie.Need-returns
+pub returns : goal.returns
 unfolding same_asked same_kernel
-returns c = let a = c.before.args in told a.a a.b _ c.same_asked.ensures
-
-pub same_kernel_spec : {M : Type 1} → statement M
-same_kernel_spec = tie.close (tie.spec same-asked-requires returns)
+returns c = let a = c.args in told a.a a.b _ c.same_asked.ensures
