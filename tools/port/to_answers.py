@@ -286,6 +286,8 @@ def lets(fn,expr,env,problems,goal=None):
         restt=re.sub(r"(?<![\w.'₀-₉-])%s(?=\.)"%re.escape(v),root,restt)
         restt=re.sub('\0'+re.escape(v)+'\0([^\0]+)\0(\\d+)\0',lambda q:'\0'+root+'\0'+q[1]+'\0'+str(int(k)+int(q[2]))+'\0',restt)
         out=out[:m.start()]+restt
+    # a place handed to omega, which finds its facts itself
+    out=re.sub(r"omega \(arith, \0[^\0]+\0[^\0]+\0\d+\0\)","omega arith",out)
     def bare(m):
         root,place,k=m[1],m[2],int(m[3])
         if goal: return f'(goal.at.{goal} {root}).{fn.newplace.get(place,place)}'
