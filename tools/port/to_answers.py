@@ -206,6 +206,8 @@ def convert(names, cratedir, crate, path):
             if TRIVIAL.match(flat) and not unf: continue
             env={c:place}
             ex=lets(fn,expr,env,problems,new)
+            ex=re.sub(r"(\.in-[\w-]+)\.keys\d+",r"\1.is",ex)
+            ex=re.sub(r"(\.in_default[\w-]*)\.rest\b",r"\1.in_default-own.rest",ex)
             arm=re.search(r"-in-([\w-]+?)(?:-\d+)?$",new)
             ex=re.sub(re.escape(c)+r"\.(?:enum_told|c)-(in-[A-Z]\w*)-\d+\.given\.1",c+r".\1.is",ex)
             ex=re.sub(r"(\.in-[\w-]+)\.keys\d+",r"\1.is",ex)
@@ -213,7 +215,7 @@ def convert(names, cratedir, crate, path):
                 # none of a match's numbers: the search has what says so
                 ex='search (tests, rules)'; wants.update(('tests','rules'))
             if arm: ex=re.sub(re.escape(c)+r"\.(?:enum_told|c)[\w-]*\.given\.1",c+".in-"+arm[1]+".is",ex)
-            answers.append('\n'.join(comments+[f'pub {new} : goal.{new}']+unf+[f'{new} {c} ='+(' ' if '\n' not in ex else '\n    ')+ex.strip()]))
+            answers.append('\n'.join(comments+[f'pub {new} : goal.{new}']+unf+[f'{new} {" ".join([c]+[q for q in params[1:] if q != "κs"])} ='+(' ' if '\n' not in ex else '\n    ')+ex.strip()]))
         else:
             # a helper
             if nm in shared: continue

@@ -1,4 +1,6 @@
 // Words of 32 bits: a bit read, set and cleared, and a masked comparison. It knows nothing of kernels.
+#![tactic(auto)]
+
 ghost use Rattle.std.specs.Prelude.{◌≡◌};
 ghost use Rattle.base_bits.specs.Words.{bit_at, with_bit, without_bit, all_match, any_match};
 

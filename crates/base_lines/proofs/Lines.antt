@@ -1,68 +1,65 @@
--- Laws on lines: the fewest decimal digits that hold a number are its decimal digits, and what one number adds to a line.
-use Prim.Native.Nat.{ℕ, zero, suc, ◌+◌, ◌-◌, ◌*◌, ◌/◌, ◌%◌, ◌^◌, ◌≤◌, ◌<◌}
-use mathlib.Core.Path.{◌≡◌, refl}
-use mathlib.Core.List.{List, [], ◌∷◌, ◌++◌, append_assoc}
-use mathlib.Core.Bool.{Bool, true, false, cond}
+-- Laws on lines: the decimal digits of a number of 64 bits spell it, and what one number adds to a line.
+use Rattle.std.proofs.Common.{ℕ, zero, suc, ◌+◌, ◌-◌, ◌*◌, ◌/◌, ◌%◌, ◌^◌, ◌≤◌, ◌<◌, ◌≡◌, refl, List, [], ◌∷◌, ◌++◌, append_assoc, Bool, true, false, cond, ltb, eqb, length, set, drop, get_or, arith, add-one, eq-eqb}
+use Rattle.std.proofs.lemmas.List.{drop-set}
+use native.Mathlib.Nat.{pow-suc, eq-or-lt_of_le}
 use mathlib.Core.Logic.{⊎_elim}
-use native.Mathlib.Nat.{add_assoc, pow-suc, pow-le-pow_right, eq-or-lt_of_le}
-use native.Mathlib.Numerals.{add-one}
-use native.Mathlib.Omega.{arith}
-use lib.Dec.{leb, eqb}
-use lib.ListN.{length, drop, get_or, drop_of_length-le}
+use lib.ListN.{drop_of_length-le}
 use lib.Seq.{drop-cons}
-use borrow.Author.Tests.{lt-ltb, le-ltb, leb-true, leb-false, eq-eqb, ne_eqb}
-use Rattle.io.specs.Digits.{last_digits, IsDigitCount}
-use Rattle.base_lines.specs.Lines.{decimal, decimal_in, is_empty, line}
+use borrow.Author.Tests.{lt-ltb, le-ltb, ne_eqb}
+use Rattle.base_lines.specs.Lines.{decimal, decimal_in, spelt_behind, is_empty, line}
 
--- one digit fewer holds a tenth
-fewer : (k n : ℕ) → IsDigitCount 10 1 n (k + 2) → IsDigitCount 10 1 (n / 10) (k + 1)
-fewer k n (a, b, c) =
-    let p : 10 ^ (k + 2) ≡ 10 ^ (k + 1) * 10 = rw (← pow-suc 10 (k + 1), ← add-one (k + 1), add_assoc) in
-    let q : 10 ^ (k + 1) ≡ 10 ^ k * 10 = rw (← pow-suc 10 k, add-one) in
-    let one : k + 2 - 1 ≡ k + 1 = omega arith in
-    let none : k + 1 - 1 ≡ k = omega arith in
-    let low : 10 ^ (k + 1) ≤ n = rw (← one) (c (omega arith)) in
-    (omega arith, omega arith, λ h. rw none (omega arith))
+-- digits behind others
+spelt_append : (n : ℕ) (xs ys : List ℕ) → spelt_behind n (xs ++ ys) ≡ spelt_behind (spelt_behind n xs) ys
+unfolding spelt_behind
+spelt_append n [] ys = refl
+spelt_append n (x ∷ xs) ys = spelt_append (10 * n + (x - 48)) xs ys
 
-tens : (k n : ℕ) → IsDigitCount 10 1 n (k + 2) → 10 ≤ n
-tens k n (a, b, c) =
-    let one : k + 2 - 1 ≡ k + 1 = omega arith in
-    let low : 10 ^ (k + 1) ≤ n = rw (← one) (c (omega arith)) in
-    let more : 1 ≤ k + 1 = omega arith in
-    let p : 10 ^ 1 ≤ 10 ^ (k + 1) = pow-le-pow_right (omega arith) more in
-    omega arith
-
-fewest_digits : (most k n : ℕ) → IsDigitCount 10 1 n k → k ≤ most → last_digits 10 k n ≡ decimal_in most n
-unfolding decimal_in
-fewest_digits most zero n f h = absurd (omega (arith, f.0))
-fewest_digits zero (suc k) n f h = absurd (omega arith)
-fewest_digits (suc most) (suc zero) n (a, b, c) h =
-    let small : n % 10 ≡ n = omega arith in
-    rw (small, lt-ltb n 10 (omega arith))
-fewest_digits (suc most) (suc (suc k)) n f h =
-    let two : suc (suc k) ≡ k + 2 = omega arith in
-    let g : IsDigitCount 10 1 n (k + 2) = rw two at f in
-    let e : last_digits 10 (suc k) (n / 10) ≡ decimal_in most (n / 10) =
-    fewest_digits most (suc k) (n / 10) (rw add-one at (fewer k n g)) (omega arith) in
-    rw (le-ltb n 10 (tens k n g), ← e, lt-ltb (n % 10) 10 (omega arith))
+-- what has no more than `most` digits is spelt by them
+spelt_in : (most n : ℕ) → n < 10 ^ most → spelt_behind 0 (decimal_in most n) ≡ n
+unfolding spelt_behind decimal_in
+spelt_in zero n h = let p : 10 ^ 0 ≡ 1 = refl in omega arith
+spelt_in (suc most) n h = go (λ g. spelt_in most (n / 10) g) (ltb n 10) refl
+  where
+    go : (n / 10 < 10 ^ most → spelt_behind 0 (decimal_in most (n / 10)) ≡ n / 10) → (t : Bool) → ltb n 10 ≡ t
+        → spelt_behind 0 (cond t ((48 + n) ∷ []) (decimal_in most (n / 10) ++ ((48 + n % 10) ∷ []))) ≡ n
+    go f true e = omega arith
+    go f false e =
+        let p : 10 ^ suc most ≡ 10 ^ most * 10 = pow-suc 10 most in
+        let less : n / 10 < 10 ^ most = omega arith in
+        rw (spelt_append, f less) (omega arith)
 
 -- a number of 64 bits has no more than twenty
-twenty : (k n : ℕ) → IsDigitCount 10 1 n k → n < 2 ^ 64 → k ≤ 20
-twenty k n (a, b, c) h = go (leb k 20) refl
-  where
-    go : (t : Bool) → leb k 20 ≡ t → k ≤ 20
-    go true e = leb-true k 20 e
-    go false e =
-        let long : 20 < k = leb-false k 20 e in
-        let low : 10 ^ (k - 1) ≤ n = c (omega arith) in
-        let more : 20 ≤ k - 1 = omega arith in
-        let p : 10 ^ 20 ≤ 10 ^ (k - 1) = pow-le-pow_right (omega arith) more in
-        absurd (omega arith)
-
--- the digits that `io` counts and spells are the number's
-pub spelt : (k n : ℕ) → IsDigitCount 10 1 n k → n < 2 ^ 64 → last_digits 10 k n ≡ decimal n
+pub spelt : (n : ℕ) → n < 2 ^ 64 → spelt_behind 0 (decimal n) ≡ n
 unfolding decimal
-spelt k n f h = fewest_digits 20 k n f (twenty k n f h)
+spelt n h = spelt_in 20 n (omega arith)
+
+-- the last digit of what has no more than one
+last_digit : (most n : ℕ) → n < 10 → decimal_in (suc most) n ≡ (48 + n % 10) ∷ []
+unfolding decimal_in
+last_digit most n h = let small : n % 10 ≡ n = omega arith in rw (lt-ltb n 10 h, small)
+
+-- the last digit of what has more
+more_digits : (most n : ℕ) → 10 ≤ n → decimal_in (suc most) n ≡ decimal_in most (n / 10) ++ ((48 + n % 10) ∷ [])
+unfolding decimal_in
+more_digits most n h = rw (le-ltb n 10 h)
+
+-- the last digit written in front of those behind it, where it is the first
+pub last_written : (i n : ℕ) (xs : List ℕ) → 0 < i → i ≤ length xs → n < 10
+    → drop (i - 1) (set xs (i - 1) (48 + n % 10)) ≡ decimal_in i n ++ drop i xs
+last_written zero n xs p h k = absurd (omega arith)
+last_written (suc m) n xs p h k =
+    let e : suc m - 1 ≡ m = omega arith in
+    let within : m < length xs = omega arith in
+    rw (e, drop-set xs m (48 + n % 10) within, last_digit m n k, add-one)
+
+-- and where it is not
+pub more_written : (i n : ℕ) (xs : List ℕ) → 0 < i → i ≤ length xs → 10 ≤ n
+    → decimal_in (i - 1) (n / 10) ++ drop (i - 1) (set xs (i - 1) (48 + n % 10)) ≡ decimal_in i n ++ drop i xs
+more_written zero n xs p h k = absurd (omega arith)
+more_written (suc m) n xs p h k =
+    let e : suc m - 1 ≡ m = omega arith in
+    let within : m < length xs = omega arith in
+    rw (e, drop-set xs m (48 + n % 10) within, more_digits m n k, append_assoc, add-one)
 
 -- a list is empty from its end on
 rest_empty : (ns : List ℕ) (i : ℕ) → i ≤ length ns → is_empty (drop i ns) ≡ eqb i (length ns)

@@ -1,17 +1,40 @@
-// Lines of decimal numbers in a lent buffer, for the programs that print.
-ghost use Rattle.std.specs.Prelude.{◌≡◌, cond, [], ◌∷◌, ◌++◌, take};
+// What the programs share: lines of decimal numbers in a lent buffer, and input that fills one.
+#![tactic(auto)]
+
+pub mod input;
+
+ghost use Rattle.std.specs.Prelude.{◌≡◌, ◌≤◌, cond, [], ◌∷◌, ◌++◌, take, drop};
 ghost use Rattle.base_bytes.specs.Pens.{pen, puts};
-ghost use Rattle.base_lines.specs.Lines.{decimal, line};
+ghost use Rattle.base_lines.specs.Lines.{decimal, line, spelt_behind};
 
 use base_bytes::pens;
+
+// The decimal digits of n, at the end of the room for them; where they begin.
+fn put_digits(n: u64, digits: &mut [u8; 20]) -> usize
+    ensures fits { result ≤ 20 }
+    ensures digits { drop result digits.new ≡ decimal n }
+    ensures whole { spelt_behind 0 (drop result digits.new) ≡ n }
+{
+    let mut rest = n;
+    let mut i: usize = 20;
+    while 0 < i {
+        i -= 1;
+        digits[i] = b'0' + (rest % 10) as u8;
+        if rest < 10 {
+            return i;
+        }
+        rest = rest / 10;
+    }
+    0
+}
 
 // The decimal digits of n, and then the byte that ends them.
 fn put_number(out: &mut [u8], at: usize, n: u64, end: u8) -> usize
     ensures { pen out.new result ≡ puts (pen out.old at) (decimal n ++ (end ∷ [])) }
 {
     let mut digits = [0u8; 20];
-    let count = io::decimal(n, &mut digits);
-    let p = pens::put_all(out, at, &digits[..count]);
+    let first = put_digits(n, &mut digits);
+    let p = pens::put_all(out, at, &digits[first..]);
     pens::put_byte(out, p, end)
 }
 

@@ -1,4 +1,6 @@
 // The answer to a call that isn't refused, once its note has been tried: accepted, or 13 where the log has no room for it.
+#![tactic(auto)]
+
 ghost use Rattle.std.specs.Prelude.{◌≡◌};
 ghost use Rattle.code_answers_given.specs.Given.{given};
 

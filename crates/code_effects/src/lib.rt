@@ -1,4 +1,6 @@
 // What each kind does: one arm a kind.
+#![tactic(auto)]
+
 ghost use Rattle.std.specs.Prelude.{◌≡◌};
 ghost use Rattle.spec_effects.specs.Effects.{effect};
 

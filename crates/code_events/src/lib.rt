@@ -1,4 +1,6 @@
 // Events and event bits: load, pend, set and clear.
+#![tactic(auto)]
+
 ghost use Rattle.std.specs.Prelude.{◌<◌, ◌≡◌, not, ◌&&◌};
 ghost use Rattle.base_queue.specs.Lists.{is_empty};
 ghost use Rattle.spec_kernel.specs.Sizes.{event_count};

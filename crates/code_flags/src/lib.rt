@@ -1,4 +1,6 @@
 // Device flags: create, destroy, pend and post.
+#![tactic(auto)]
+
 ghost use Rattle.std.specs.Prelude.{◌≡◌};
 ghost use Rattle.spec_flags.specs.Flags.{create_flag, destroy_flag, pend_flag, post_flag};
 

@@ -1,4 +1,6 @@
 // Messages: create, destroy, post and pend.
+#![tactic(auto)]
+
 ghost use Rattle.std.specs.Prelude.{◌≡◌};
 ghost use Rattle.spec_messages.specs.Messages.{passed, create_message, destroy_message, hand_over, post_message, receive, pend_message};
 

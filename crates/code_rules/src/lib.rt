@@ -1,4 +1,6 @@
 // The state rules of the whole state, as a test: one pass over each table of records, then one over each table of places.
+#![tactic(auto)]
+
 ghost use Rattle.std.specs.Prelude.{◌≡◌, ◌||◌};
 ghost use Rattle.spec_rules.specs.Tests.{all_of, runner_kept, keeps_rules, if_asked, conditions_asked, keeps_asked};
 ghost use Rattle.base_tables.specs.Taken.{is_table};

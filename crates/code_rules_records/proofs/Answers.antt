@@ -1,11 +1,10 @@
--- What a callee's answer b says where it is negated and is a.
+-- What a callee's answer b says of a, which it is, where a test of `!b` held or failed.
 use mathlib.Core.Path.{◌≡◌, sym, ◌∙◌}
-use mathlib.Core.Bool.{Bool, true, false, not}
-use borrow.Author.Tests.{not-true, not-false}
+use mathlib.Core.Bool.{Bool, true, false}
 
 module _ {a b : Bool} (e : b ≡ a) where
-  pub refused : not b ≡ true → a ≡ false
-  refused h = sym e ∙ not-true b h
+  pub refused : b ≡ false → a ≡ false
+  refused h = sym e ∙ h
 
-  pub passed : not b ≡ false → a ≡ true
-  passed h = sym e ∙ not-false b h
+  pub passed : b ≡ true → a ≡ true
+  passed h = sym e ∙ h

@@ -1,4 +1,6 @@
 // The state rules of each record by itself, as a test.
+#![tactic(auto)]
+
 ghost use Rattle.std.specs.Prelude.{◌≡◌, ◌&&◌, eqb};
 ghost use Rattle.spec_rules.specs.Tests.{no_wake, is_no_thread, is_no_semaphore, is_no_message};
 ghost use Rattle.spec_rules.specs.Tests.{live_semaphore_kept, semaphore_kept};

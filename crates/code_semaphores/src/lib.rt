@@ -1,3 +1,5 @@
 // Semaphores: create, destroy, periodic, pend and post.
+#![tactic(auto)]
+
 pub mod semaphores;
 pub mod waiting;

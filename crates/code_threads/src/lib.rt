@@ -1,4 +1,6 @@
 // Threads' lives: create, destroy, block, wake, yield, sleep, and priorities.
+#![tactic(auto)]
+
 ghost use Rattle.std.specs.Prelude.{◌≡◌, map, not, get_or};
 ghost use Rattle.base_queue.specs.Lists.{keep};
 ghost use Rattle.base_queue.specs.Queues.{items, pack};

@@ -1,4 +1,6 @@
 // A tick: time-outs and sleepers, then the periodic semaphores.
+#![tactic(auto)]
+
 ghost use Rattle.std.specs.Prelude.{◌≡◌, map};
 ghost use Rattle.spec_moves.specs.States.{each};
 ghost use Rattle.code_semaphores.specs.Waiting.{Does};

@@ -1,10 +1,9 @@
 -- A value of the code's own type has what `OfTypes` says: so many records, and each field below the limit of its type. What owning a value
 -- tells is the logic's relation between it and its machine value (`Is`); the records of an array tell it one by one.
 use Prim.Native.Nat.{ℕ, zero, suc, ◌<◌}
-use mathlib.Core.Path.{sym, ◌∙◌}
-use mathlib.Core.List.{List, [], ◌∷◌, map, map-id}
+use mathlib.Core.List.{List, [], ◌∷◌}
 use native.Mathlib.Omega.{arith}
-use lib.ListN.{get_or, length-map}
+use lib.ListN.{get_or}
 use mir.Val.{Val}
 use base.Fml.{Fml}
 use denote.Shadow.{shadow}
@@ -32,13 +31,13 @@ use Rattle.spec_notes.specs.Within.{Within, OfTypes}
 use Rattle.spec_answers.specs.Runs.{IsRecord}
 
 -- What each element of an array tells, the one past the end tells too.
-each_tells : {X D : Type 0} (f : D → List Val → Fml) (into : X → D) (P : X → Type 0) (none : X) → P none
-    → ((x : X) (vs : List Val) → shadow (f (into x) vs) → P x)
-    → (xs : List X) (us : List Val) → shadow (each D f (map into xs) us) → (i : ℕ) → P (get_or xs i none)
-each_tells f into P none p tells [] us s i = p
-each_tells f into P none p tells (x ∷ xs) [] s i = absurd s
-each_tells f into P none p tells (x ∷ xs) (u ∷ us) s zero = tells x (u ∷ []) s.0
-each_tells f into P none p tells (x ∷ xs) (u ∷ us) s (suc i) = each_tells f into P none p tells xs us s.1 i
+each_tells : {X : Type 0} (f : X → List Val → Fml) (P : X → Type 0) (none : X) → P none
+    → ((x : X) (vs : List Val) → shadow (f x vs) → P x)
+    → (xs : List X) (us : List Val) → shadow (each X f xs us) → (i : ℕ) → P (get_or xs i none)
+each_tells f P none p tells [] us s i = p
+each_tells f P none p tells (x ∷ xs) [] s i = absurd s
+each_tells f P none p tells (x ∷ xs) (u ∷ us) s zero = tells x (u ∷ []) s.0
+each_tells f P none p tells (x ∷ xs) (u ∷ us) s (suc i) = each_tells f P none p tells xs us s.1 i
 
 -- what a thread's condition holds: an id of one byte or a mask of two
 condition_tells : (x : Condition) (vs : List Val) → Is conditions.the_row x vs → condition_data x < 65536
@@ -53,30 +52,30 @@ module _ (k : Kernel) (vs : List Val) (s : Is kernels.the_row k vs) where
   -- ---- of each record what its own type tells
   of_threads : (P : Thread → Type 0) → P no_thread → ((r : Thread) (us : List Val) → Is threads.the_row r us → P r)
       → (t : ℕ) → P (thread k t)
-  of_threads P none tells = each_tells _ _ P no_thread none tells k.threads _ s.1.1.0.1.1
+  of_threads P none tells = each_tells threads.the_row.own_val P no_thread none tells k.threads s.1.1.0.0 s.1.1.0.1.1
 
   of_semaphores_lem : (P : Semaphore → Type 0) → P no_semaphore → ((r : Semaphore) (us : List Val) → Is semaphores.the_row r us → P r)
       → (i : ℕ) → P (semaphore k i)
-  of_semaphores_lem P none tells = each_tells _ _ P no_semaphore none tells k.semaphores _ s.1.1.1.0.1.1
+  of_semaphores_lem P none tells = each_tells semaphores.the_row.own_val P no_semaphore none tells k.semaphores s.1.1.1.0.0 s.1.1.1.0.1.1
 
   of_events_lem : (P : Event → Type 0) → P no_event → ((r : Event) (us : List Val) → Is events.the_row r us → P r) → (i : ℕ) → P (event k i)
-  of_events_lem P none tells = each_tells _ _ P no_event none tells k.events _ s.1.1.1.1.0.1.1
+  of_events_lem P none tells = each_tells events.the_row.own_val P no_event none tells k.events s.1.1.1.1.0.0 s.1.1.1.1.0.1.1
 
   of_messages : (P : Message → Type 0) → P no_message → ((r : Message) (us : List Val) → Is messages.the_row r us → P r)
       → (m : ℕ) → P (message k m)
-  of_messages P none tells = each_tells _ _ P no_message none tells k.messages _ s.1.1.1.1.1.0.1.1
+  of_messages P none tells = each_tells messages.the_row.own_val P no_message none tells k.messages s.1.1.1.1.1.0.0 s.1.1.1.1.1.0.1.1
 
   -- ---- of the state
   sized : Sized k
   sized =
       record {
-        threads = sym (length-map k.threads _) ∙ s.1.1.0.1.0.1;
-        semaphores = sym (length-map k.semaphores _) ∙ s.1.1.1.0.1.0.1;
-        events = sym (length-map k.events _) ∙ s.1.1.1.1.0.1.0.1;
-        messages = sym (length-map k.messages _) ∙ s.1.1.1.1.1.0.1.0.1;
-        places = sym (length-map k.places.at _) ∙ s.1.1.1.1.1.1.0.1.1.1.0.1.0.1;
-        time = sym (length-map k.time.at _) ∙ s.1.1.1.1.1.1.1.0.1.1.1.0.1.0.1;
-        posted = sym (length-map k.posted.at _) ∙ s.1.1.1.1.1.1.1.1.0.1.1.1.0.1.0.1;
+        threads = s.1.1.0.1.0.1;
+        semaphores = s.1.1.1.0.1.0.1;
+        events = s.1.1.1.1.0.1.0.1;
+        messages = s.1.1.1.1.1.0.1.0.1;
+        places = s.1.1.1.1.1.1.0.1.1.1.0.1.0.1;
+        time = s.1.1.1.1.1.1.1.0.1.1.1.0.1.0.1;
+        posted = s.1.1.1.1.1.1.1.1.0.1.1.1.0.1.0.1;
         priorities = of_threads (λ r. r.priority < 256) (omega arith) (λ r us t. t.1.1.1.0.1);
         channels = of_messages (λ r. r.channel < 256) (omega arith) (λ r us t. t.1.1.1.1.1.0.1);
       }
@@ -117,6 +116,4 @@ of_types k vs s = record { sized = sized k vs s; within = within k vs s }
 
 -- Every sixteen bytes that it can be given.
 pub is_record : (bytes : List ℕ) (vs : List Val) → Is (Array (UInt w8) 16) bytes vs → IsRecord bytes
-is_record bytes vs s =
-    let elements : shadow (each ℕ (UInt w8).own_val (map (λ b. b) bytes) s.0) = rw map-id s.1.1 in
-    (s.1.0.1, each_tells (UInt w8).own_val (λ b. b) (λ b. b < 256) 0 (omega arith) (λ b us t. t.1) bytes s.0 elements)
+is_record bytes vs s = (s.1.0.1, each_tells (UInt w8).own_val (λ b. b < 256) 0 (omega arith) (λ b us t. t.1) bytes s.0 s.1.1)

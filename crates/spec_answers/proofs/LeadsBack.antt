@@ -17,7 +17,7 @@ use Rattle.spec_answers.specs.declared.Logged.{Logged}
 use Rattle.spec_answers.specs.Logs.{note_for, undone, reached, one_more, many_by, undone_many}
 use Rattle.spec_answers.specs.Runs.{Undamaged, AreRecords, replayed, Accepts, notes, back_times, Run, Follows, Step, call, undo}
 use Rattle.spec_answers.specs.Runs.{AreSteps, after_all, counted, after_calls, accepted_of, accepted_from}
-use Rattle.spec_answers.specs.Runs.{led_back, stood_at, undone_times}
+use Rattle.spec_answers.specs.Runs.{led_back, stood_at, undone_times, counting, given, after}
 use Rattle.spec_answers.specs.Promises.{RunsFollow, LogLeadsBack, LogLeadsBackAtOnce, LedBetween, NotesLeadBack, AnyMix}
 use Rattle.spec_answers.proofs.Following.{accepted_yields, replayed_kept, call_follows, run_kept}
 use Rattle.spec_answers.proofs.Following.{undo_given, undo_follows, any_undo_follows}
@@ -34,33 +34,39 @@ module _ (start : Run) (gone : List (List ℕ)) where
   pub calls_follow : {calls : List (List ℕ)} {r : Run} (records : List (List ℕ)) → AreRecords records → Follows start gone calls r
       → Follows start gone (counted calls r (map call records)) (after_calls r records)
   calls_follow [] _ F = F
-  calls_follow (bytes ∷ records) (b, bs) F = calls_follow records bs (call_follows start gone bytes b F)
+  calls_follow {calls = calls} {r = r} (bytes ∷ records) (b, bs) F =
+      calls_follow {calls = counting calls (call bytes) (given r (call bytes)).answer.number} records bs
+      (call_follows start gone bytes b F)
 
   module _ (K : Undamaged start.kernel) where
     -- and from an empty log calls and undos those that count
     pub steps_follow : {calls : List (List ℕ)} {r : Run} (steps : List Step) → start.used ≡ 0 → AreSteps steps
         → Follows start gone calls r → Follows start gone (counted calls r steps) (after_all r steps)
     steps_follow [] z _ F = F
-    steps_follow (call bytes ∷ steps) z (b, bs) F = steps_follow steps z bs (call_follows start gone bytes b F)
-    steps_follow (undo ∷ steps) z bs F = steps_follow steps z bs (any_undo_follows start gone K z F)
+    steps_follow {calls = calls} {r = r} (call bytes ∷ steps) z (b, bs) F =
+        steps_follow {calls = counting calls (call bytes) (given r (call bytes)).answer.number} steps z bs
+        (call_follows start gone bytes b F)
+    steps_follow {calls = calls} {r = r} (undo ∷ steps) z bs F =
+        steps_follow {calls = counting calls undo (given r undo).answer.number} steps z bs (any_undo_follows start gone K z F)
 
     -- to undo the notes of the later calls leads to where the others did
     pub times_undone : {r : Run} (calls later : List (List ℕ)) → Follows start gone (later ++ calls) r
         → undone_times (length later) r ≡ led_back (stood_at start gone calls r.log)
     times_undone calls [] F = rw (F.state, F.ends)
     times_undone calls (bytes ∷ []) F = undo_given start gone K F
-    times_undone calls (bytes ∷ next ∷ later) F = times_undone calls (next ∷ later) (undo_follows start gone K F)
+    times_undone {r = r} calls (bytes ∷ next ∷ later) F =
+        times_undone {r = after r undo} calls (next ∷ later) (undo_follows start gone K F)
 
     -- and so it does in one call
     pub many_undone : {r : Run} (calls later : List (List ℕ)) → Follows start gone (later ++ calls) r
         → many_by undone (length later) r.kernel r.log r.used
         ≡ reached (led_back (stood_at start gone calls r.log)) (length later)
     many_undone calls [] F = rw (F.state, F.ends)
-    many_undone {r} calls (bytes ∷ later) F =
+    many_undone {r = r} calls (bytes ∷ later) F =
         let z : eqb (undone r.kernel r.log r.used).answer.number 0 ≡ true =
         ap (λ (x : Logged). eqb x.answer.number 0) (undo_given start gone K F) in
         rw z
-        (ap one_more (many_undone calls later (undo_follows start gone K F)))
+        (ap one_more (many_undone {r = after r undo} calls later (undo_follows start gone K F)))
 
 pub runs_follow : RunsFollow
 unfolding RunsFollow

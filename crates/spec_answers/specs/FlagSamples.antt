@@ -10,7 +10,7 @@ use Rattle.spec_calls.specs.declared.call.Call.{Call}
 use Rattle.spec_moves.specs.States.{with_flags}
 use Rattle.spec_notes.specs.Touched.{same_row}
 use Rattle.spec_answers.specs.Steps.{answer}
-use Rattle.spec_answers.specs.Samples.{Sample, call, anything, tick, create}
+use Rattle.spec_answers.specs.Samples.{Sample, call, tick, create}
 
 abbrev pub create_flag : Call
 create_flag = call 31 0 0 0 0

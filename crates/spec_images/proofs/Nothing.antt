@@ -11,12 +11,12 @@ use lib.ListN.{get_or, replicate}
 use borrow.Table.Steps.{cases}
 use Rattle.base_queue.specs.Lists.{keep}
 use Rattle.base_queue.specs.Queues.{items, is_tidy}
-use Rattle.base_queue.specs.Tables.{one, Placed, is_placed}
+use Rattle.base_queue.specs.Tables.{Placed, is_placed}
 use Rattle.spec_kernel.specs.declared.records.Thread.{Thread}
 use Rattle.spec_kernel.specs.declared.records.Semaphore.{Semaphore}
 use Rattle.spec_kernel.specs.declared.records.Message.{Message}
 use Rattle.spec_kernel.specs.declared.records.Kernel.{Kernel}
-use Rattle.spec_kernel.specs.Sizes.{thread_count, semaphore_count, message_count}
+use Rattle.spec_kernel.specs.Sizes.{thread_count, message_count}
 use Rattle.spec_kernel.specs.Records.{no_thread, no_semaphore, no_message, fresh, thread, message}
 use Rattle.spec_kernel.specs.Places.{home_of, has_home, is_queued}
 use Rattle.spec_kernel.specs.Runner.{chosen}

@@ -1,6 +1,5 @@
 -- `base_bits::bit` meets its contract. The shift brings bit i down to the lowest digit.
 -- Assumes nothing.
-use borrow.Author.Rules.{rules}
 use mathlib.Core.Path.{sym}
 use Rattle.base_bits.proofs.Digits.{bit_low, bit_high}
 use Rattle.base_bits.proofs.bit.Goals as goal

@@ -1,6 +1,5 @@
 -- `base_bits::with_bit` meets its contract. `|` adds the bit where it is clear.
 -- Assumes nothing.
-use borrow.Author.Rules.{rules}
 use mathlib.Core.Path.{sym}
 use Rattle.base_bits.proofs.Laws.{one_shifted, with_or, with_high}
 use Rattle.base_bits.proofs.with_bit.Goals as goal

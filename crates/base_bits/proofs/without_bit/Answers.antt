@@ -1,6 +1,5 @@
 -- `base_bits::without_bit` meets its contract. What is taken away is the bit where it is set, and nothing where it is clear.
 -- Assumes nothing.
-use borrow.Author.Rules.{rules}
 use mathlib.Core.Path.{sym}
 use lib.Bits.{and_le_l}
 use Rattle.base_bits.proofs.Digits.{bit_high}

@@ -1,13 +1,8 @@
 -- `base_queue::fronted` meets its contract: i places are copied, and the others are 0.
-use Prim.Native.Nat.{ℕ, ◌-◌, ◌≤◌}
-use mathlib.Core.Path.{◌≡◌, refl}
-use mathlib.Core.List.{List}
-use native.Mathlib.Omega.{arith}
+use Prim.Native.Nat.{◌-◌, ◌≤◌}
+use mathlib.Core.Path.{◌≡◌}
 use lib.ListN.{length, take}
-use lib.Seq.{take_all}
-use borrow.Author.Rules.{rules}
 use Rattle.base_queue.specs.Queues.{capacity, pad}
-use Rattle.base_queue.proofs.Queues.{pad_next}
 use Rattle.base_queue.proofs.fronted.Given as goal
 
 abbrev pub invariant-loop-i : goal.invariant-loop-i

@@ -1,19 +1,11 @@
 -- `base_queue::is_tidy` meets its contract: from the length on, the places before i together say whether they are 0, and the rest decides.
 use Prim.Native.Nat.{ℕ, ◌-◌, ◌≤◌}
-use mathlib.Core.Path.{◌≡◌, ◌∙◌}
-use mathlib.Core.Bool.{Bool, ◌&&◌, and-true, and_assoc}
-use native.Mathlib.Numerals.{add-one}
-use native.Mathlib.Omega.{arith}
+use mathlib.Core.Path.{◌≡◌}
+use mathlib.Core.Bool.{Bool, ◌&&◌}
 use lib.Dec.{eqb}
 use lib.ListN.{length, take, drop}
-use lib.Seq.{take_all}
-use borrow.Author.Rules.{rules}
-use borrow.Author.Tests.{le-leb, lt-leb}
-use Rattle.base_bits.proofs.Members.{or_none}
-use Rattle.base_queue.specs.declared.Queue.{Queue}
 use Rattle.base_queue.specs.Lists.{every_from, all_zero}
-use Rattle.base_queue.specs.Queues.{capacity, is_tidy}
-use Rattle.base_queue.proofs.Lists.{rest_next, rest_end, every_anywhere}
+use Rattle.base_queue.specs.Queues.{capacity}
 use Rattle.base_queue.proofs.is_tidy.Given as goal
 
 abbrev pub test : ℕ → ℕ → Bool

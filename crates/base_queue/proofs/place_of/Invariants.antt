@@ -1,12 +1,9 @@
 -- `base_queue::place_of` meets its contract: x is not among the i places passed, so its place is i and its place in the rest.
-use Prim.Native.Nat.{ℕ, ◌+◌, ◌-◌}
+use Prim.Native.Nat.{◌+◌, ◌-◌}
 use mathlib.Core.Path.{◌≡◌}
-use native.Mathlib.Omega.{arith}
 use lib.ListN.{take, drop}
-use borrow.Author.Rules.{rules}
 use Rattle.base_queue.specs.Lists.{place_of}
-use Rattle.base_queue.proofs.Lists.{place_here, place_next, place_end}
-use Rattle.base_queue.proofs.Queues.{Walk, walk_start, sized_items}
+use Rattle.base_queue.proofs.Queues.{Walk}
 use Rattle.base_queue.proofs.place_of.Given as goal
 
 abbrev pub invariant-loop-i : goal.invariant-loop-i

@@ -1,8 +1,7 @@
 -- `base_queue::with_at` meets its contract: a holds the first k + 1 of those that stand there with x. The place of x is i, or the end.
-use Prim.Native.Nat.{ℕ, ◌+◌, ◌-◌, ◌≤◌, ◌<◌, min}
+use Prim.Native.Nat.{ℕ, ◌+◌, ◌-◌, min}
 use mathlib.Core.Path.{◌≡◌, sym, ap, ◌∙◌}
 use mathlib.Core.List.{List}
-use mathlib.Core.Logic.{⊎_elim}
 use native.Mathlib.Numerals.{add-one}
 use native.Mathlib.Omega.{arith}
 use lib.ListN.{length, take, get_or}
@@ -13,7 +12,7 @@ use Rattle.base_queue.specs.declared.Queue.{Queue}
 use Rattle.base_queue.specs.Lists.{with_at}
 use Rattle.base_queue.specs.Queues.{capacity, items, pad, room_for}
 use Rattle.base_queue.proofs.Lists.{take_front, with_at_here, with_at_after, with_at_min, length_with_at}
-use Rattle.base_queue.proofs.Queues.{Walk, walk_start, sized_items, pad_next, pad_full, queue_eq}
+use Rattle.base_queue.proofs.Queues.{walk_start, sized_items, pad_next, pad_full, queue_eq}
 use Rattle.base_queue.proofs.with_at.Goals as goal
 use Rattle.base_queue.proofs.with_at.Goals.{Joined-i-n, then-i-n, else-i-n}
 

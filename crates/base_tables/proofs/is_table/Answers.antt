@@ -1,7 +1,5 @@
 -- `base_tables::is_table` meets its contract: a table that isn't tidy is refused, and of another the members decide.
 use mathlib.Core.Path.{sym, ◌∙◌}
-use borrow.Author.Rules.{rules}
-use borrow.Author.Tests.{not-true, not-false}
 use Rattle.base_tables.specs.Taken.{is_table}
 use Rattle.base_tables.proofs.is_table.Goals as goal
 

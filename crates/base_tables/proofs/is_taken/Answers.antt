@@ -1,19 +1,19 @@
 -- `base_tables::is_taken` meets its contract: the i members passed are taken out of the set and their keys rise up to `low`, so the
 -- rest decides.
-use Prim.Native.Nat.{ℕ, ◌+◌, ◌-◌, ◌≤◌, ◌<◌}
+use Prim.Native.Nat.{ℕ, ◌+◌, ◌-◌, ◌<◌}
 use mathlib.Core.Path.{◌≡◌, refl, sym, ◌∙◌}
 use mathlib.Core.Bool.{true, false, and-true, and-false}
 use mathlib.Core.List.{◌∷◌}
 use native.Mathlib.Omega.{arith}
 use lib.ListN.{take, drop, get_or}
 use borrow.Author.Rules.{rules}
-use borrow.Author.Tests.{not-true, not-false, le-leb, lt-leb}
+use borrow.Author.Tests.{le-leb, lt-leb}
 use Rattle.base_bits.specs.Words.{has_bit}
 use Rattle.base_bits.proofs.Laws.{one_shifted}
 use Rattle.base_bits.proofs.Members.{has_within, has_large}
 use Rattle.base_queue.specs.Queues.{items}
 use Rattle.base_queue.proofs.Lists.{rest_next, rest_end}
-use Rattle.base_queue.proofs.Queues.{Walk, walk_start, sized_items}
+use Rattle.base_queue.proofs.Queues.{walk_start, sized_items}
 use Rattle.base_tables.specs.Taken.{is_taken}
 use Rattle.base_tables.proofs.is_taken.Goals as goal
 use Rattle.base_tables.proofs.is_taken.Goals.{After-has, At-loop-i, Else-not-has, Start}

@@ -2,7 +2,6 @@
 -- stream of the member at i; past the records that is 0.
 use Prim.Native.Nat.{◌-◌}
 use mathlib.Core.Path.{◌≡◌, ◌∙◌}
-use mathlib.Core.Logic.{⊎_elim}
 use native.Mathlib.Omega.{arith}
 use lib.ListN.{length, get_or}
 use borrow.Author.Rules.{rules}
@@ -10,7 +9,7 @@ use Rattle.base_queue.specs.Queues.{capacity}
 use Rattle.spec_kernel.specs.Sizes.{message_count}
 use Rattle.spec_kernel.specs.Records.{no_message}
 use Rattle.spec_kernel.specs.Places.{stream_of}
-use Rattle.code_moves.proofs.Seeking.{value_at, value_past, Seeks, seeks_starts, seeks_stops, seeks_goes, seeks_ends}
+use Rattle.code_moves.proofs.Seeking.{value_at, value_past, seeks_starts, seeks_stops, seeks_goes, seeks_ends}
 use Rattle.code_moves.proofs.post_place.Goals as goal
 use Rattle.code_moves.proofs.post_place.Goals.{At-loop-i, Joined-u-lt-MESSAGES, Start, then-u-lt-MESSAGES, else-u-lt-MESSAGES}
 
@@ -29,8 +28,8 @@ meets c =
     let records = (start (loop-of c)).args.records in
     let e : length records ≡ message_count = search rules in
     elim c.if-u-lt-MESSAGES.branch [
-      then-u-lt-MESSAGES w ↦ w.other-is ∙ w.stream_of-other.ensures
-    | else-u-lt-MESSAGES w ↦ w.other-is ∙ value_past stream_of no_message records e w.if-u-lt-MESSAGES.false
+      | then-u-lt-MESSAGES w ↦ w.other-is ∙ w.stream_of-other.ensures
+      | else-u-lt-MESSAGES w ↦ w.other-is ∙ value_past stream_of no_message records e w.if-u-lt-MESSAGES.false
     ]
 
 pub loop-i-init : goal.loop-i-init

@@ -1,16 +1,9 @@
 -- `code_moves::post_place` meets its contract: none of the i places passed is of a later stream. Where the arms meet, `other` is the
 -- stream of the member at i; past the records that is 0.
 use Prim.Native.Nat.{◌-◌}
-use mathlib.Core.Path.{◌≡◌, ◌∙◌}
-use mathlib.Core.Logic.{⊎_elim}
-use native.Mathlib.Omega.{arith}
-use lib.ListN.{length, get_or}
-use borrow.Author.Rules.{rules}
-use Rattle.base_queue.specs.Queues.{capacity}
-use Rattle.spec_kernel.specs.Sizes.{message_count}
 use Rattle.spec_kernel.specs.Records.{no_message}
 use Rattle.spec_kernel.specs.Places.{stream_of}
-use Rattle.code_moves.proofs.Seeking.{value_at, value_past, Seeks, seeks_starts, seeks_stops, seeks_goes, seeks_ends}
+use Rattle.code_moves.proofs.Seeking.{Seeks}
 use Rattle.code_moves.proofs.post_place.Given as goal
 
 abbrev pub invariant-loop-i : goal.invariant-loop-i

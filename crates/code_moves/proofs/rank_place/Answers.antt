@@ -2,7 +2,6 @@
 -- the member at i; past the records that is the rank of no thread.
 use Prim.Native.Nat.{◌-◌}
 use mathlib.Core.Path.{◌≡◌, ◌∙◌}
-use mathlib.Core.Logic.{⊎_elim}
 use native.Mathlib.Omega.{arith}
 use lib.ListN.{length, get_or}
 use borrow.Author.Rules.{rules}
@@ -10,7 +9,7 @@ use Rattle.base_queue.specs.Queues.{capacity}
 use Rattle.spec_kernel.specs.Sizes.{thread_count}
 use Rattle.spec_kernel.specs.Records.{no_thread}
 use Rattle.spec_kernel.specs.Places.{home_of, rank_of}
-use Rattle.code_moves.proofs.Seeking.{value_at, value_past, Seeks, seeks_starts, seeks_stops, seeks_goes, seeks_ends}
+use Rattle.code_moves.proofs.Seeking.{value_at, value_past, seeks_starts, seeks_stops, seeks_goes, seeks_ends}
 use Rattle.code_moves.proofs.rank_place.Goals as goal
 use Rattle.code_moves.proofs.rank_place.Goals.{At-loop-i, Joined-u-lt-THREADS, Start, then-u-lt-THREADS, else-u-lt-THREADS}
 
@@ -29,8 +28,8 @@ meets c =
     let records = (start (loop-of c)).args.records in
     let e : length records ≡ thread_count = search rules in
     elim c.if-u-lt-THREADS.branch [
-      then-u-lt-THREADS w ↦ w.other-is ∙ w.rank_of-other.ensures
-    | else-u-lt-THREADS w ↦ w.other-is ∙ value_past rank_of no_thread records e w.if-u-lt-THREADS.false
+      | then-u-lt-THREADS w ↦ w.other-is ∙ w.rank_of-other.ensures
+      | else-u-lt-THREADS w ↦ w.other-is ∙ value_past rank_of no_thread records e w.if-u-lt-THREADS.false
     ]
 
 pub loop-i-init : goal.loop-i-init

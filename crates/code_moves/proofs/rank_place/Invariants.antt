@@ -1,16 +1,9 @@
 -- `code_moves::rank_place` meets its contract: none of the i places passed ranks after `rank`. Where the arms meet, `other` is the rank of
 -- the member at i; past the records that is the rank of no thread.
 use Prim.Native.Nat.{◌-◌}
-use mathlib.Core.Path.{◌≡◌, ◌∙◌}
-use mathlib.Core.Logic.{⊎_elim}
-use native.Mathlib.Omega.{arith}
-use lib.ListN.{length, get_or}
-use borrow.Author.Rules.{rules}
-use Rattle.base_queue.specs.Queues.{capacity}
-use Rattle.spec_kernel.specs.Sizes.{thread_count}
 use Rattle.spec_kernel.specs.Records.{no_thread}
-use Rattle.spec_kernel.specs.Places.{home_of, rank_of}
-use Rattle.code_moves.proofs.Seeking.{value_at, value_past, Seeks, seeks_starts, seeks_stops, seeks_goes, seeks_ends}
+use Rattle.spec_kernel.specs.Places.{rank_of}
+use Rattle.code_moves.proofs.Seeking.{Seeks}
 use Rattle.code_moves.proofs.rank_place.Given as goal
 
 abbrev pub invariant-loop-i : goal.invariant-loop-i

@@ -1,7 +1,5 @@
 -- `code_moves::rejoined_places` meets its contract: the thread leaves, and where it has a home it joins again at the place of its rank.
 use mathlib.Core.Path.{sym, ◌∙◌}
-use borrow.Author.Rules.{rules}
-use borrow.Author.Tests.{not-true, not-false}
 use Rattle.spec_moves.specs.Moves.{ranks_after}
 use Rattle.spec_moves.proofs.Joins.{leaves, joins}
 use Rattle.code_moves.proofs.rejoined_places.Goals as goal

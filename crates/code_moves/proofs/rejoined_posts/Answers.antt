@@ -1,7 +1,5 @@
 -- `code_moves::rejoined_posts` meets its contract: the message leaves, and where it is queued it joins again at the place of its stream.
 use mathlib.Core.Path.{sym, ◌∙◌}
-use borrow.Author.Rules.{rules}
-use borrow.Author.Tests.{not-true, not-false}
 use Rattle.spec_moves.specs.Moves.{post_after}
 use Rattle.spec_moves.proofs.Joins.{leaves, joins}
 use Rattle.code_moves.proofs.rejoined_posts.Goals as goal

@@ -1,6 +1,5 @@
 -- `code_moves::rejoined_time` meets its contract: the thread leaves, and where it has ticks left it joins again at their place.
 use native.Mathlib.Omega.{arith}
-use borrow.Author.Rules.{rules}
 use borrow.Author.Tests.{lt-ltb, le-ltb}
 use Rattle.spec_moves.specs.Moves.{wakes_after}
 use Rattle.spec_moves.proofs.Joins.{leaves, joins}

@@ -1,7 +1,6 @@
 -- `code_moves::relocated` meets its contract: the record is stored, and each table is as its step says; the time queue is touched only
 -- where the ticks differ.
 use native.Mathlib.Omega.{arith}
-use borrow.Author.Rules.{rules}
 use borrow.Author.Tests.{lt-ltb, le-ltb, eq-eqb, ne_eqb}
 use Rattle.spec_kernel.specs.Sizes.{thread_count}
 use Rattle.spec_moves.specs.Moves.{thread_in, relocate}

@@ -1,16 +1,14 @@
 -- `code_moves::wake_place` meets its contract: none of the i places passed wakes after `ticks`. Where the arms meet, `other` is what the
 -- member at i has left; past the records that is 0.
-use Prim.Native.Nat.{ℕ, ◌-◌}
+use Prim.Native.Nat.{◌-◌}
 use mathlib.Core.Path.{◌≡◌, ◌∙◌}
-use mathlib.Core.Logic.{⊎_elim}
 use native.Mathlib.Omega.{arith}
 use lib.ListN.{length, get_or}
 use borrow.Author.Rules.{rules}
 use Rattle.base_queue.specs.Queues.{capacity}
-use Rattle.spec_kernel.specs.declared.records.Thread.{Thread}
 use Rattle.spec_kernel.specs.Sizes.{thread_count}
 use Rattle.spec_kernel.specs.Records.{no_thread}
-use Rattle.code_moves.proofs.Seeking.{value_at, value_past, Seeks, seeks_starts, seeks_stops, seeks_goes, seeks_ends}
+use Rattle.code_moves.proofs.Seeking.{value_at, value_past, seeks_starts, seeks_stops, seeks_goes, seeks_ends}
 use Rattle.code_moves.proofs.wake_place.Invariants.{ticks}
 use Rattle.code_moves.proofs.wake_place.Goals as goal
 use Rattle.code_moves.proofs.wake_place.Goals.{At-loop-i, Joined-u-lt-THREADS, Start, then-u-lt-THREADS, else-u-lt-THREADS}
@@ -29,8 +27,8 @@ meets c =
     let records = (start (loop-of c)).args.records in
     let e : length records ≡ thread_count = search rules in
     elim c.if-u-lt-THREADS.branch [
-      then-u-lt-THREADS w ↦ w.other-is
-    | else-u-lt-THREADS w ↦ w.other-is ∙ value_past ticks no_thread records e w.if-u-lt-THREADS.false
+      | then-u-lt-THREADS w ↦ w.other-is
+      | else-u-lt-THREADS w ↦ w.other-is ∙ value_past ticks no_thread records e w.if-u-lt-THREADS.false
     ]
 
 pub loop-i-init : goal.loop-i-init

@@ -2,7 +2,6 @@
 use Prim.Native.Nat.{◌-◌}
 use mathlib.Core.Path.{◌≡◌, refl}
 use native.Mathlib.Omega.{arith}
-use borrow.Author.Rules.{rules}
 use Rattle.spec_regions.specs.Regions.{pop_critical}
 use Rattle.code_regions.proofs.pop_critical.Goals as goal
 

@@ -2,7 +2,6 @@
 use Prim.Native.Nat.{◌-◌}
 use mathlib.Core.Path.{◌≡◌, refl}
 use native.Mathlib.Omega.{arith}
-use borrow.Author.Rules.{rules}
 use Rattle.spec_regions.specs.Regions.{pop_unscheduled}
 use Rattle.code_regions.proofs.pop_unscheduled.Goals as goal
 

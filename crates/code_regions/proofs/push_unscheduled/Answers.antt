@@ -1,6 +1,5 @@
 -- `code_regions::push_unscheduled` meets its contract.
 use borrow.Author.Tests.{lt-ltb, le-ltb}
-use borrow.Author.Rules.{rules}
 use Rattle.spec_regions.specs.Regions.{push_unscheduled}
 use Rattle.code_regions.proofs.push_unscheduled.Goals as goal
 

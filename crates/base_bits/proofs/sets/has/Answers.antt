@@ -1,6 +1,5 @@
 -- `base_bits::sets::has` meets its contract. The shift brings bit x down to the lowest digit, and a word has none past the last.
 -- Assumes nothing.
-use borrow.Author.Rules.{rules}
 use mathlib.Core.Path.{sym}
 use native.Mathlib.Omega.{arith}
 use Rattle.base_bits.proofs.Digits.{has_low}

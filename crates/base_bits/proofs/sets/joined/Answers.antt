@@ -1,6 +1,5 @@
 -- `base_bits::sets::joined` meets its contract: `|` puts the bit in.
 -- Assumes nothing.
-use borrow.Author.Rules.{rules}
 use borrow.Author.Tests.{lt-ltb, le-ltb}
 use Rattle.base_bits.specs.Sets.{joined}
 use Rattle.base_bits.proofs.Laws.{one_shifted}

@@ -1,7 +1,6 @@
 -- `base_bytes::bytes::byte_at` meets its contract: past the end is the default.
 use mathlib.Core.Path.{sym}
 use lib.ListN.{get_or-eq_default}
-use borrow.Author.Rules.{rules}
 use Rattle.base_bytes.proofs.bytes.byte_at.Goals as goal
 
 pub returns-else-at-s : goal.returns-else-at-s

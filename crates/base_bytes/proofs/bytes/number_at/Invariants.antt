@@ -1,12 +1,9 @@
 -- `base_bytes::bytes::number_at` meets its contract. The bytes are read from the last to the first: so far x is the number in those
 -- from i on.
-use Prim.Native.Nat.{◌+◌, ◌-◌, ◌*◌, ◌≤◌, ◌<◌, ◌^◌, min}
-use mathlib.Core.Path.{◌≡◌, sym, ◌∙◌}
-use native.Mathlib.Omega.{arith}
-use lib.ListN.{length, get_or, drop}
-use borrow.Author.Rules.{rules}
+use Prim.Native.Nat.{◌+◌, ◌-◌, ◌≤◌, min}
+use mathlib.Core.Path.{◌≡◌}
+use lib.ListN.{length, drop}
 use Rattle.base_bytes.specs.Bytes.{un}
-use Rattle.base_bytes.proofs.Turns.{un_next, un_word, drop_least}
 use Rattle.base_bytes.proofs.bytes.number_at.Given as goal
 
 abbrev pub invariant-loop-i : goal.invariant-loop-i

@@ -1,9 +1,7 @@
 -- `base_bytes::bytes::same_bytes` meets its contract: the i bytes passed are the same, so the test of all is that of the rest.
 use Prim.Native.Nat.{◌-◌}
-use mathlib.Core.Path.{◌≡◌, sym, ◌∙◌}
-use lib.ListN.{length, drop}
-use borrow.Author.Rules.{rules}
-use Rattle.base_bytes.specs.Bytes.{begins}
+use mathlib.Core.Path.{sym, ◌∙◌}
+use lib.ListN.{drop}
 use Rattle.base_bytes.proofs.Turns.{begins_short, begins_other, begins_next, begins_end}
 use Rattle.base_bytes.proofs.bytes.same_bytes.Goals as goal
 

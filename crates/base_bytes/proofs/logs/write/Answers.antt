@@ -4,7 +4,6 @@ use mathlib.Core.Path.{◌≡◌, sym, ap, ◌∙◌}
 use mathlib.Core.List.{List}
 use native.Mathlib.Omega.{arith}
 use lib.ListN.{length}
-use borrow.Author.Rules.{rules}
 use Rattle.base_bytes.specs.Logs.{noted, ends}
 use Rattle.base_bytes.proofs.Writing.{puts_room}
 use Rattle.base_bytes.proofs.Appending.{noted_room, noted_none, ends_room, ends_none}

@@ -1,8 +1,8 @@
 -- `base_bytes::pens::put_all` meets its contract: what is still to write are the bytes from i on; the room is for n.
-use Prim.Native.Nat.{◌+◌, ◌-◌, ◌≤◌, min}
+use Prim.Native.Nat.{◌+◌, ◌-◌}
 use mathlib.Core.Path.{◌≡◌, sym, ap, ◌∙◌}
 use native.Mathlib.Omega.{arith}
-use lib.ListN.{length, drop, length-set}
+use lib.ListN.{length-set}
 use borrow.Author.Rules.{rules}
 use Rattle.base_bytes.specs.Pens.{pen, puts}
 use Rattle.base_bytes.proofs.Writing.{puts_full, puts_next, puts_end}

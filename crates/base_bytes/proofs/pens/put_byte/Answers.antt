@@ -1,5 +1,4 @@
 -- `base_bytes::pens::put_byte` meets its contract: the test is that of `put`.
-use borrow.Author.Rules.{rules}
 use borrow.Author.Tests.{lt-ltb, le-ltb}
 use Rattle.base_bytes.specs.Pens.{put}
 use Rattle.base_bytes.proofs.pens.put_byte.Goals as goal

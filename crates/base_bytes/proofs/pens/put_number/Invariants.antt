@@ -1,11 +1,8 @@
 -- `base_bytes::pens::put_number` meets its contract: what is still to write are the k lowest bytes of y.
-use mathlib.Core.Path.{◌≡◌, sym, ◌∙◌}
-use native.Mathlib.Omega.{arith}
+use mathlib.Core.Path.{◌≡◌}
 use lib.ListN.{length}
-use borrow.Author.Rules.{rules}
 use Rattle.base_bytes.specs.Bytes.{le}
 use Rattle.base_bytes.specs.Pens.{pen, puts}
-use Rattle.base_bytes.proofs.Turns.{le_next}
 use Rattle.base_bytes.proofs.pens.put_number.Given as goal
 
 abbrev pub invariant-loop-k : goal.invariant-loop-k

@@ -6,7 +6,6 @@ use lib.ListN.{get_or}
 use lib.Seq.{get_or-drop}
 use borrow.Author.Tests.{ne_eqb}
 use Rattle.base_rows.specs.Entries.{code_in}
-use borrow.Author.Rules.{rules}
 use Rattle.base_rows.proofs.entries.code_in.Goals as goal
 
 pub returns-then-byte_at-eq1 : goal.returns-then-byte_at-eq1

@@ -3,7 +3,6 @@ use Prim.Native.Nat.{◌/◌}
 use native.Mathlib.Omega.{arith}
 use Rattle.base_rows.specs.Entries.{fields_from}
 use Rattle.base_rows.proofs.EntriesRead.{taken_small}
-use borrow.Author.Rules.{rules}
 use Rattle.base_rows.proofs.entries.fields_from.Goals as goal
 
 pub overflow_add-result : goal.overflow_add-result

@@ -6,7 +6,6 @@ use lib.ListN.{get_or}
 use lib.Seq.{get_or-drop}
 use borrow.Author.Tests.{ne_eqb}
 use Rattle.base_rows.specs.Entries.{flags_in}
-use borrow.Author.Rules.{rules}
 use Rattle.base_rows.proofs.entries.flags_in.Goals as goal
 
 pub returns-then-head-eq1 : goal.returns-then-head-eq1

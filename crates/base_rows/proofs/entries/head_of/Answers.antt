@@ -3,7 +3,6 @@ use Prim.Native.Nat.{◌≤◌}
 use native.Mathlib.Omega.{arith}
 use Rattle.base_rows.specs.Entries.{head_of}
 use Rattle.base_rows.proofs.EntriesRead.{flag_small}
-use borrow.Author.Rules.{rules}
 use Rattle.base_rows.proofs.entries.head_of.Goals as goal
 use Rattle.base_rows.proofs.entries.head_of.Goals.{After-flag_of, After-flag_of-2}
 

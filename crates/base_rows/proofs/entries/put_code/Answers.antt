@@ -1,7 +1,6 @@
 -- `base_rows::entries::put_code` meets its contract: the test is that of `code_noted`.
 use borrow.Author.Tests.{eq-eqb, ne_eqb}
 use Rattle.base_bytes.specs.Pens.{puts}
-use borrow.Author.Rules.{rules}
 use Rattle.base_rows.proofs.entries.put_code.Goals as goal
 
 pub returns-then-code-told : goal.returns-then-code-told

@@ -5,7 +5,6 @@ use borrow.Author.Tests.{ne_eqb}
 use Rattle.base_bytes.specs.Pens.{puts}
 use Rattle.base_bytes.proofs.Writing.{puts_append}
 use Rattle.base_rows.specs.Entries.{tail_of}
-use borrow.Author.Rules.{rules}
 use Rattle.base_rows.proofs.entries.put_entry.Goals as goal
 
 pub returns-then-flags-eq0 : goal.returns-then-flags-eq0

@@ -1,6 +1,5 @@
 -- `base_rows::entries::put_fields` meets its contract: the flags, then the body.
 use Rattle.base_bytes.specs.Pens.{puts}
-use borrow.Author.Rules.{rules}
 use Rattle.base_rows.proofs.entries.put_fields.Goals as goal
 
 pub returns : goal.returns

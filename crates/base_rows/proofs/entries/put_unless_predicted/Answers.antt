@@ -2,7 +2,6 @@
 use mathlib.Core.Path.{sym, ◌∙◌}
 use borrow.Author.Tests.{ne_eqb}
 use Rattle.base_bytes.specs.Pens.{puts}
-use borrow.Author.Rules.{rules}
 use Rattle.base_rows.proofs.entries.put_unless_predicted.Goals as goal
 
 pub returns-then-flags_of-eq0 : goal.returns-then-flags_of-eq0

@@ -2,7 +2,6 @@
 use lib.Seq.{drop-drop}
 use mathlib.Core.Path.{◌∙◌}
 use Rattle.base_rows.specs.Entries.{row_in}
-use borrow.Author.Rules.{rules}
 use Rattle.base_rows.proofs.entries.row_in.Goals as goal
 
 pub returns : goal.returns

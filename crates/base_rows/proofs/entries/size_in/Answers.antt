@@ -5,7 +5,6 @@ use native.Mathlib.Omega.{arith}
 use lib.ListN.{length, get_or, drop}
 use Rattle.base_rows.specs.Rows.{used_by}
 use Rattle.base_rows.specs.Entries.{fields_from, flags_in, own_in}
-use borrow.Author.Rules.{rules}
 use Rattle.base_rows.proofs.entries.size_in.Goals as goal
 
 pub returns : goal.returns

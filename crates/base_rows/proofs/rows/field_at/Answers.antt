@@ -1,5 +1,4 @@
 -- `base_rows::rows::field_at` meets its contract: the test is that of `flagged`.
-use borrow.Author.Rules.{rules}
 use borrow.Author.Tests.{eq-eqb, ne_eqb}
 use Rattle.base_rows.proofs.rows.field_at.Goals as goal
 

@@ -1,12 +1,9 @@
 -- `base_rows::rows::flags_of` meets its contract. The fields are compared from the last to the first: so far the flags are those of the
 -- fields from i on.
-use Prim.Native.Nat.{◌+◌, ◌-◌, ◌*◌, ◌≤◌, ◌<◌}
-use mathlib.Core.Path.{◌≡◌, sym, ◌∙◌}
-use native.Mathlib.Omega.{arith}
-use lib.ListN.{length, get_or, drop}
-use borrow.Author.Rules.{rules}
-use Rattle.base_rows.specs.Rows.{flag_of, flags_of}
-use Rattle.base_rows.proofs.RowTurns.{flags_next, flags_byte, flags_end}
+use Prim.Native.Nat.{◌-◌, ◌≤◌}
+use mathlib.Core.Path.{◌≡◌}
+use lib.ListN.{length, drop}
+use Rattle.base_rows.specs.Rows.{flags_of}
 use Rattle.base_rows.proofs.rows.flags_of.Given as goal
 
 abbrev pub invariant-loop-i : goal.invariant-loop-i

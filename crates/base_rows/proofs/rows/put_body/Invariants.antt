@@ -1,13 +1,9 @@
 -- `base_rows::rows::put_body` meets its contract: what is still to write is the body of the fields from i on.
-use Prim.Native.Nat.{◌+◌, ◌-◌, ◌≤◌}
-use mathlib.Core.Path.{◌≡◌, refl, sym, ◌∙◌}
-use native.Mathlib.Omega.{arith}
+use Prim.Native.Nat.{◌-◌, ◌≤◌}
+use mathlib.Core.Path.{◌≡◌}
 use lib.ListN.{length, drop}
-use borrow.Author.Rules.{rules}
 use Rattle.base_bytes.specs.Pens.{pen, puts}
 use Rattle.base_rows.specs.Rows.{body_of}
-use Rattle.base_bytes.proofs.Writing.{puts_append}
-use Rattle.base_rows.proofs.RowTurns.{body_next, body_end}
 use Rattle.base_rows.proofs.rows.put_body.Given as goal
 
 abbrev pub invariant-loop-i : goal.invariant-loop-i

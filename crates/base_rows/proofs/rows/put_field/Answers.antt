@@ -1,5 +1,4 @@
 -- `base_rows::rows::put_field` meets its contract: the test is that of `field_of`.
-use borrow.Author.Rules.{rules}
 use borrow.Author.Tests.{eq-eqb, ne_eqb}
 use Rattle.base_bytes.specs.Pens.{puts}
 use Rattle.base_rows.proofs.rows.put_field.Goals as goal

@@ -1,14 +1,10 @@
 -- `base_rows::rows::row_at` meets its contract: the fields before i are read, and what is still to come is the row of the others. A place
 -- that begins within the bytes and goes on by at most eight widths fits its type.
 use Prim.Native.Nat.{◌+◌, ◌-◌, ◌*◌, ◌≤◌}
-use mathlib.Core.Path.{◌≡◌, ◌∙◌}
+use mathlib.Core.Path.{◌≡◌}
 use mathlib.Core.List.{◌++◌}
-use native.Mathlib.Omega.{arith}
-use lib.ListN.{length, drop, take, length-set}
-use borrow.Author.Rules.{rules}
+use lib.ListN.{length, drop, take}
 use Rattle.base_rows.specs.Rows.{row_from, cut}
-use Rattle.base_bytes.proofs.Turns.{drop_least}
-use Rattle.base_rows.proofs.RowTurns.{row_next, row_end, filled_next, filled_end}
 use Rattle.base_rows.proofs.rows.row_at.Given as goal
 
 abbrev pub invariant-loop-i : goal.invariant-loop-i

@@ -1,11 +1,8 @@
 -- `base_rows::rows::used_by` meets its contract: what is still to count are the fields from i on.
 use Prim.Native.Nat.{◌+◌, ◌-◌, ◌*◌, ◌≤◌}
 use mathlib.Core.Path.{◌≡◌}
-use native.Mathlib.Omega.{arith}
 use lib.ListN.{length, drop}
-use borrow.Author.Rules.{rules}
 use Rattle.base_rows.specs.Rows.{used_by}
-use Rattle.base_rows.proofs.RowTurns.{used_next, used_end}
 use Rattle.base_rows.proofs.rows.used_by.Given as goal
 
 abbrev pub invariant-loop-i : goal.invariant-loop-i

@@ -1,4 +1,3 @@
-use borrow.Author.Rules.{rules}
 use Rattle.code_kernel.proofs.conditions.awaits.Goals as goal
 
 pub returns-in-ForMessage : goal.returns-in-ForMessage

@@ -1,4 +1,3 @@
-use borrow.Author.Rules.{rules}
 use borrow.Author.Tests.{not-true, not-false}
 use Rattle.code_kernel.proofs.conditions.is_ready.Goals as goal
 

@@ -1,7 +1,6 @@
 -- `code_kernel::places::home_of` meets its contract: a record that isn't live has no home, and that of a live one is its condition's.
 use mathlib.Core.Path.{◌≡◌}
 use mathlib.Core.Bool.{true}
-use borrow.Author.Rules.{rules}
 use borrow.Author.Tests.{not-true, not-false}
 use Rattle.spec_kernel.specs.Places.{home_of}
 use Rattle.code_kernel.proofs.places.home_of.Goals as goal

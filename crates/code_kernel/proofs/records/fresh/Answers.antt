@@ -1,4 +1,3 @@
-use borrow.Author.Rules.{rules}
 use Rattle.spec_kernel.specs.Records.{fresh}
 use Rattle.code_kernel.proofs.records.fresh.Goals as goal
 

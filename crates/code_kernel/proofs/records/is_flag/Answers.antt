@@ -1,5 +1,4 @@
 -- `code_kernel::records::is_flag` meets its contract: an id too large is no flag's, and any other has its bit.
-use borrow.Author.Rules.{rules}
 use borrow.Author.Tests.{lt-ltb, le-ltb}
 use Rattle.spec_kernel.specs.Sizes.{flag_count}
 use Rattle.code_kernel.proofs.records.is_flag.Goals as goal

@@ -1,7 +1,6 @@
 -- `code_kernel::runner::runner_of` meets its contract: the levels add up to 0 only where both are 0.
 use Prim.Native.Nat.{◌+◌, ◌≤◌, ◌<◌}
 use native.Mathlib.Omega.{arith}
-use borrow.Author.Rules.{rules}
 use borrow.Author.Tests.{eq-eqb, ne_eqb, lt-ltb, le-ltb}
 use Rattle.spec_kernel.specs.Places.{home_of}
 use Rattle.code_kernel.specs.RunnerOf.{runner_of}

@@ -1,5 +1,4 @@
 -- `code_kernel::truth::is_true` meets its contract: each mode is one of the two tests of a word's bits.
-use borrow.Author.Rules.{rules}
 use Rattle.spec_kernel.specs.Truth.{is_true}
 use Rattle.code_kernel.proofs.truth.is_true.Goals as goal
 

@@ -2,7 +2,6 @@
 -- the home of the member at i; past the records that is the home of no thread.
 use Prim.Native.Nat.{◌-◌}
 use mathlib.Core.Path.{◌≡◌, sym, ap, ◌∙◌}
-use mathlib.Core.Logic.{⊎_elim}
 use native.Mathlib.Omega.{arith}
 use lib.ListN.{length, get_or}
 use borrow.Author.Rules.{rules}
@@ -13,7 +12,7 @@ use Rattle.spec_kernel.specs.Records.{no_thread}
 use Rattle.spec_kernel.specs.Places.{home_of}
 use Rattle.spec_moves.proofs.Joins.{past_end}
 use Rattle.code_kernel_find.specs.AtHome.{first_at_home}
-use Rattle.code_kernel_find.proofs.OfHomes.{is_home, Search, search_starts, keep_here, keep_skip, keep_none}
+use Rattle.code_kernel_find.proofs.OfHomes.{is_home, search_starts, keep_here, keep_skip, keep_none}
 use Rattle.code_kernel_find.proofs.firsts.first_at_home.Goals as goal
 use Rattle.code_kernel_find.proofs.firsts.first_at_home.Goals.{Joined-u-lt-THREADS, then-u-lt-THREADS, else-u-lt-THREADS}
 
@@ -26,8 +25,8 @@ meets c =
     let a = c.args in
     let e : length a.threads ≡ thread_count = search rules in
     elim c.if-u-lt-THREADS.branch [
-      then-u-lt-THREADS w ↦ w.other-is ∙ w.home_of-other.ensures
-    | else-u-lt-THREADS w ↦ w.other-is ∙ sym (ap home_of (past_end a.threads no_thread e (omega (arith, w.if-u-lt-THREADS.false))))
+      | then-u-lt-THREADS w ↦ w.other-is ∙ w.home_of-other.ensures
+      | else-u-lt-THREADS w ↦ w.other-is ∙ sym (ap home_of (past_end a.threads no_thread e (omega (arith, w.if-u-lt-THREADS.false))))
     ]
 
 pub loop-i-init : goal.loop-i-init

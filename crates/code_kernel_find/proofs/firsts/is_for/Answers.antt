@@ -1,5 +1,4 @@
 -- `code_kernel_find::firsts::is_for` meets its contract: both tests pass, or the first fails.
-use borrow.Author.Rules.{rules}
 use borrow.Author.Tests.{eq-eqb, ne_eqb}
 use Rattle.code_kernel_find.proofs.firsts.is_for.Goals as goal
 

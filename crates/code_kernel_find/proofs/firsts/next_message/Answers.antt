@@ -2,7 +2,6 @@
 -- the test of the member at i; past the records it fails.
 use Prim.Native.Nat.{◌-◌}
 use mathlib.Core.Path.{◌≡◌, sym, ◌∙◌}
-use mathlib.Core.Logic.{⊎_elim}
 use mathlib.Core.Bool.{and-false}
 use native.Mathlib.Omega.{arith}
 use lib.ListN.{length, get_or}
@@ -12,7 +11,7 @@ use Rattle.spec_kernel.specs.Sizes.{message_count}
 use Rattle.spec_kernel.specs.Records.{no_message}
 use Rattle.spec_moves.proofs.Joins.{past_end}
 use Rattle.spec_kernel.specs.Channels.{first_for}
-use Rattle.code_kernel_find.proofs.OfHomes.{Search, search_starts, keep_here, keep_skip, keep_none}
+use Rattle.code_kernel_find.proofs.OfHomes.{search_starts, keep_here, keep_skip, keep_none}
 use Rattle.spec_kernel.proofs.Streams.{is_mine}
 use Rattle.code_kernel_find.proofs.firsts.next_message.Goals as goal
 use Rattle.code_kernel_find.proofs.firsts.next_message.Goals.{Joined-u-lt-MESSAGES, then-u-lt-MESSAGES, else-u-lt-MESSAGES}
@@ -25,8 +24,8 @@ meets c =
     let a = c.args in
     let e : length a.messages ≡ message_count = search rules in
     elim c.if-u-lt-MESSAGES.branch [
-      then-u-lt-MESSAGES w ↦ w.mine-is ∙ w.is_for-mine.ensures
-    | else-u-lt-MESSAGES w ↦ w.mine-is ∙ rw (past_end a.messages no_message e w.if-u-lt-MESSAGES.false, and-false)
+      | then-u-lt-MESSAGES w ↦ w.mine-is ∙ w.is_for-mine.ensures
+      | else-u-lt-MESSAGES w ↦ w.mine-is ∙ rw (past_end a.messages no_message e w.if-u-lt-MESSAGES.false, and-false)
     ]
 
 pub loop-i-init : goal.loop-i-init

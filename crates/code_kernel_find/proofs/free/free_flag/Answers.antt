@@ -2,10 +2,7 @@
 use Prim.Native.Nat.{◌-◌}
 use mathlib.Core.Path.{refl, sym, ◌∙◌}
 use native.Mathlib.Omega.{arith}
-use borrow.Author.Rules.{rules}
-use borrow.Author.Tests.{not-true, not-false}
-use Rattle.spec_kernel.specs.Sizes.{flag_count}
-use Rattle.code_kernel_find.proofs.Lowest.{PassedBits, clear_here, clear_next, clear_end}
+use Rattle.code_kernel_find.proofs.Lowest.{clear_here, clear_next, clear_end}
 use Rattle.code_kernel_find.proofs.free.free_flag.Goals as goal
 
 pub loop-i-init : goal.loop-i-init

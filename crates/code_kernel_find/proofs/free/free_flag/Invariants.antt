@@ -1,11 +1,7 @@
 -- `code_kernel_find::free::free_flag` meets its contract: the i flags passed are live.
 use Prim.Native.Nat.{◌-◌}
-use mathlib.Core.Path.{refl, sym, ◌∙◌}
-use native.Mathlib.Omega.{arith}
-use borrow.Author.Rules.{rules}
-use borrow.Author.Tests.{not-true, not-false}
 use Rattle.spec_kernel.specs.Sizes.{flag_count}
-use Rattle.code_kernel_find.proofs.Lowest.{PassedBits, clear_here, clear_next, clear_end}
+use Rattle.code_kernel_find.proofs.Lowest.{PassedBits}
 use Rattle.code_kernel_find.proofs.free.free_flag.Given as goal
 
 abbrev pub invariant-loop-i : goal.invariant-loop-i

@@ -1,12 +1,11 @@
 -- `code_kernel_find::free::free_thread` meets its contract: the i threads passed are live.
-use Prim.Native.Nat.{◌≤◌, ◌-◌}
+use Prim.Native.Nat.{◌-◌}
 use native.Mathlib.Omega.{arith}
 use lib.ListN.{get_or}
 use borrow.Author.Rules.{rules}
-use borrow.Author.Tests.{not-true, not-false}
 use Rattle.spec_kernel.specs.Records.{no_thread}
 use Rattle.spec_kernel.specs.Sizes.{thread_count}
-use Rattle.code_kernel_find.proofs.Lowest.{Passed, free_here, free_next, free_last, free_end, within}
+use Rattle.code_kernel_find.proofs.Lowest.{free_here, free_next, free_last, free_end, within}
 use Rattle.code_kernel_find.proofs.free.free_thread.Goals as goal
 
 pub loop-i-init : goal.loop-i-init
@@ -18,8 +17,7 @@ pub returns-then-not-threads-i : goal.returns-then-not-threads-i
 returns-then-not-threads-i c = free_here (λ x. x.live) _ _ c.loop-i.invariant.0 no_thread (omega arith) (c.if-not-threads-i.true)
 
 pub loop-i-preserved : goal.loop-i-preserved
-loop-i-preserved c =
-    (
+loop-i-preserved c = (
   free_next (λ x. x.live) _ _ c.loop-i.invariant.0 no_thread (omega arith) (c.if-not-threads-i.false),
   omega arith,
   omega arith,

@@ -1,5 +1,4 @@
 -- `code_moves::states::filed` meets its contract: the record is stored, and the table is as its step says.
-use borrow.Author.Rules.{rules}
 use borrow.Author.Tests.{lt-ltb, le-ltb}
 use Rattle.spec_kernel.specs.Sizes.{message_count}
 use Rattle.spec_moves.specs.Moves.{repost}

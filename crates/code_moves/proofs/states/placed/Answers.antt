@@ -1,5 +1,4 @@
 -- `code_moves::states::placed` meets its contract: the move, on the part that threads move in.
-use borrow.Author.Rules.{rules}
 use Rattle.code_moves.proofs.states.placed.Goals as goal
 
 pub returns : goal.returns

@@ -2,7 +2,6 @@
 use Prim.Native.Nat.{◌+◌}
 use native.Mathlib.Omega.{arith}
 use borrow.Author.Tests.{eq-eqb, ne_eqb}
-use borrow.Author.Rules.{rules}
 use Rattle.spec_moves.specs.States.{scheduled}
 use Rattle.code_moves.proofs.states.scheduled.Goals as goal
 

@@ -4,7 +4,6 @@ use lib.ListN.{length}
 use Rattle.spec_notes.specs.Notes.{section_count}
 use Rattle.code_notes_frame.specs.Meant.{start_from}
 use Rattle.code_notes_frame.proofs.Framing.{frames_fit, frames_none, frames_short}
-use borrow.Author.Rules.{rules}
 use Rattle.code_notes_frame.proofs.frames.frames_of.Goals as goal
 
 pub returns-then-note-lt-LEAST : goal.returns-then-note-lt-LEAST

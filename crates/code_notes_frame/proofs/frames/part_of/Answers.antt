@@ -5,7 +5,6 @@ use mathlib.Core.Path.{◌≡◌}
 use native.Mathlib.Omega.{arith}
 use lib.ListN.{length}
 use Rattle.code_notes_frame.proofs.Framing.{part_least}
-use borrow.Author.Rules.{rules}
 use Rattle.code_notes_frame.proofs.frames.part_of.Goals as goal
 
 pub returns-then-to-from : goal.returns-then-to-from

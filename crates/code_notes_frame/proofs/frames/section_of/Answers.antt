@@ -8,7 +8,6 @@ use Rattle.base_bytes.specs.Bytes.{un}
 use Rattle.spec_notes.specs.Notes.{section_count}
 use Rattle.code_notes_frame.specs.Meant.{part_of}
 use Rattle.code_notes_frame.proofs.Framing.{section_at, section_none}
-use borrow.Author.Rules.{rules}
 use Rattle.code_notes_frame.proofs.frames.section_of.Goals as goal
 
 pub returns-then-i-ge-SECTIONS : goal.returns-then-i-ge-SECTIONS

@@ -1,5 +1,5 @@
 -- `code_notes_frame::frames::start_of` meets its contract: what is left to go over, from where it has come to.
-use Prim.Native.Nat.{ℕ, ◌+◌, ◌*◌, ◌≤◌, ◌<◌}
+use Prim.Native.Nat.{ℕ, ◌+◌, ◌<◌}
 use mathlib.Core.Path.{◌≡◌, sym, ◌∙◌}
 use mathlib.Core.List.{List}
 use native.Mathlib.Omega.{arith}
@@ -7,10 +7,8 @@ use lib.ListN.{get_or, drop}
 use lib.Seq.{get_or-drop}
 use Rattle.base_bytes.specs.Bytes.{un}
 use Rattle.base_bytes.proofs.Numbers.{un_small}
-use Rattle.spec_notes.specs.Notes.{section_count}
 use Rattle.code_notes_frame.specs.Meant.{start_from}
 use Rattle.code_notes_frame.proofs.Framing.{start_next}
-use borrow.Author.Rules.{rules}
 use Rattle.code_notes_frame.proofs.frames.start_of.Goals as goal
 
 pub loop-left-preserved : goal.loop-left-preserved

@@ -2,7 +2,6 @@
 use borrow.Author.Tests.{le-leb, lt-leb}
 use Rattle.spec_notes.specs.Notes.{least_note}
 use Rattle.spec_notes.specs.Undo.{has_last}
-use borrow.Author.Rules.{rules}
 use Rattle.code_notes_frame.proofs.last.has_last.Goals as goal
 
 pub returns-then-used-lt2 : goal.returns-then-used-lt2

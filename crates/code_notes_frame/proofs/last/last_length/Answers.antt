@@ -3,7 +3,6 @@ use Prim.Native.Nat.{◌-◌}
 use mathlib.Core.Path.{◌≡◌}
 use native.Mathlib.Omega.{arith}
 use Rattle.spec_notes.specs.Undo.{last_length}
-use borrow.Author.Rules.{rules}
 use Rattle.code_notes_frame.proofs.last.last_length.Goals as goal
 
 pub returns-then-used-lt2 : goal.returns-then-used-lt2

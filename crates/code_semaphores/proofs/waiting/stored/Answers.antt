@@ -1,0 +1,13 @@
+-- `code_semaphores::waiting::stored` meets its contract: past the last semaphore nothing is stored.
+use mathlib.Core.Path.{◌≡◌}
+use native.Mathlib.Omega.{arith}
+use lib.ListN.{length}
+use lib.Seq.{set_out}
+use Rattle.spec_kernel.specs.Sizes.{semaphore_count}
+use Rattle.code_semaphores.proofs.waiting.stored.Goals as goal
+
+pub returns-else-i-lt-SEMAPHORE_IDS : goal.returns-else-i-lt-SEMAPHORE_IDS
+returns-else-i-lt-SEMAPHORE_IDS c =
+    let w = c.args.w in
+    let e : length w.semaphores ≡ semaphore_count = c.well_formed.0.1.1.1.0.1.0.1 in
+    rw (set_out w.semaphores c.args.i c.args.r (omega arith))
