@@ -7,23 +7,22 @@ use lib.Dec.{eqb}
 use Rattle.spec_calls.specs.declared.call.Call.{Call}
 use Rattle.spec_refusals.specs.Refusals.{pops_nothing}
 use Rattle.spec_calls.proofs.KindRuns.{as_kind, run, off}
-use Rattle.code_refusals.proofs.pops_nothing.Statement.{statement}
-use Rattle.code_refusals.proofs.pops_nothing.Tie as tie
+use Rattle.code_refusals.proofs.pops_nothing.Goals as goal
 
-returns : tie.Need-returns
+pub returns-in-9 : goal.returns-in-9
 unfolding pops_nothing
-returns c =
-    let a = c.before.before.args in
+returns-in-9 c =
+    let a = c.args in
     let z = sym (or-false (eqb a.unscheduled 0)) in
     run (λ m. eqb a.unscheduled 0 ≡ pops_nothing a.unscheduled a.critical (as_kind a.c m)) 2 9 (z, (z, tt)) a.c.kind
-    c.before.if1.false c.if2.true
+    (omega arith) (omega arith)
 
-returns-2 : tie.Need-returns-2
+pub returns-in-12 : goal.returns-in-12
 unfolding pops_nothing
-returns-2 c =
-    let a = c.before.before.before.before.args in
+returns-in-12 c =
+    let a = c.args in
     run (λ m. eqb a.critical 0 ≡ pops_nothing a.unscheduled a.critical (as_kind a.c m)) 2 12 (refl, (refl, tt)) a.c.kind
-    c.before.if3.false c.if4.true
+    (omega arith) (omega arith)
 
 -- a kind that pops no level
 none : (u r : ℕ) (c : Call) → (9 ≤ c.kind → c.kind < 11 → ⊥) → (12 ≤ c.kind → c.kind < 14 → ⊥) → false ≡ pops_nothing u r c
@@ -33,16 +32,11 @@ none u r c h g =
     let p = off c.kind 12 14 g in
     rw (o 9 refl refl, o 10 refl refl, p 12 refl refl, p 13 refl refl)
 
-returns-3 : tie.Need-returns-3
-returns-3 c = let a = c.before.args in none a.unscheduled a.critical a.c (λ x y. omega arith) (λ x y. omega arith)
+pub returns-in_default : goal.returns-in_default
+returns-in_default c = let a = c.args in none a.unscheduled a.critical a.c (λ x y. omega arith) (λ x y. omega arith)
 
-returns-4 : tie.Need-returns-4
-returns-4 c =
-    let a = c.before.before.before.args in none a.unscheduled a.critical a.c (λ x y. omega arith) (λ x y. omega arith)
+pub returns-in_default-2 : goal.returns-in_default-2
+returns-in_default-2 c = let a = c.args in none a.unscheduled a.critical a.c (λ x y. omega arith) (λ x y. omega arith)
 
-returns-5 : tie.Need-returns-5
-returns-5 c =
-    let a = c.before.before.before.before.args in none a.unscheduled a.critical a.c (λ x y. omega arith) (λ x y. omega arith)
-
-pub pops_nothing_spec : {M : Type 1} → statement M
-pops_nothing_spec = tie.close (tie.spec returns returns-2 returns-3 returns-4 returns-5)
+pub returns-in_default-3 : goal.returns-in_default-3
+returns-in_default-3 c = let a = c.args in none a.unscheduled a.critical a.c (λ x y. omega arith) (λ x y. omega arith)
