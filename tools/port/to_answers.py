@@ -46,7 +46,7 @@ class Fn:
             if place is None: return None
         return place
 
-CH=re.compile(r"(?<![\w.'₀-₉-])([A-Za-z][\w'₀-₉κ-]*)((?:\.before)*)(\.[A-Za-z][\w'-]*)?")
+CH=re.compile(r"(?<![\w.'₀-₉-])([A-Za-z][\w'₀-₉κ-]*)((?:\.before(?![\w'₀-₉-]))*)(\.[A-Za-z][\w'-]*)?")
 
 def turn_expr(fn, text, env, problems):
     """env: var -> old place name"""
@@ -93,29 +93,30 @@ ALIAS=re.compile(r"(?:^--[^\n]*\n)*^(?:abbrev )?([\w'₀-₉-]+) : tie\.[A-Z][^�
 
 def inline_places(text):
     """a helper that only goes from a place to an earlier one is written out: fields are flat now"""
+    text=re.sub(r"let ([\w'₀-₉-]+) : tie\.[A-Z][\w-]*(?: [a-z][\w-]*)* = ",r"let \1 = ",text)
     al={}
     def take(m):
-        if norm(m[1])!=norm(m[2]): return m[0]
+        if m[1]!=m[2]: return m[0]
         rest=m[4].strip()
         if not re.fullmatch(r"(?:\(*[\w'₀-₉-]+ )*\(*"+re.escape(m[3])+r"(?:\.before|\))*",rest): return m[0]
-        al[norm(m[1])]=(m[3],rest); return ''
+        al[m[1]]=(m[3],rest); return ''
     new=ALIAS.sub(take,text)
     if not al: return text
     USE=re.compile(r"\(([\w'₀-₉-]+) ([\w'₀-₉-]+(?:\.before)*)\)((?:\.before)*)")
     def put(m):
-        if norm(m[1]) not in al: return m[0]
-        v,rest=al[norm(m[1])]
+        if m[1] not in al: return m[0]
+        v,rest=al[m[1]]
         rest=re.sub(r"(?<![\w.'₀-₉-])"+re.escape(v)+r"(?![\w'₀-₉-])",m[2],rest)
         if re.search(r"[ (]",rest) and not rest.startswith('('): rest='('+rest+')'
         return rest+m[3]
     while True:
         t=USE.sub(put,new)
-        t=re.sub(r"let ([\w'₀-₉-]+) = ([\w'₀-₉-]+) ([\w'₀-₉-]+(?:\.before)*) in",lambda m: f'let {m[1]} = ({m[2]} {m[3]}) in' if norm(m[2]) in al else m[0],t)
-        t=re.sub(r"let ([\w'₀-₉-]+) = ([\w'₀-₉-]+) \(([\w'₀-₉-]+ [\w'₀-₉-]+(?:\.before)*)\) in",lambda m: f'let {m[1]} = ({m[2]} ({m[3]})) in' if norm(m[2]) in al else m[0],t)
+        t=re.sub(r"let ([\w'₀-₉-]+) = ([\w'₀-₉-]+) ([\w'₀-₉-]+(?:\.before)*) in",lambda m: f'let {m[1]} = ({m[2]} {m[3]}) in' if m[2] in al else m[0],t)
+        t=re.sub(r"let ([\w'₀-₉-]+) = ([\w'₀-₉-]+) \(([\w'₀-₉-]+ [\w'₀-₉-]+(?:\.before)*)\) in",lambda m: f'let {m[1]} = ({m[2]} ({m[3]})) in' if m[2] in al else m[0],t)
         if t==new: break
         new=t
     for n in al:
-        if re.search(r"(?<![\w.'₀-₉-])"+n.replace('-','[-_]')+r" ",new): print('an alias stays:',n)
+        if re.search(r"(?<![\w.'₀-₉-])"+re.escape(n)+r" ",new): print('an alias stays:',n)
     return new
 
 def convert(names, cratedir, crate, path):
@@ -215,6 +216,11 @@ def convert(names, cratedir, crate, path):
                 # none of a match's numbers: the search has what says so
                 ex='search (tests, rules)'; wants.update(('tests','rules'))
             if arm: ex=re.sub(re.escape(c)+r"\.(?:enum_told|c)[\w-]*\.given\.1",c+".in-"+arm[1]+".is",ex)
+            # a place that is passed more than once gets a name
+            for bare in sorted(set(re.findall(r"\(goal\.at\.%s %s\)\.[A-Z][\w-]*"%(re.escape(new),re.escape(c)),ex))):
+                if len(re.findall(re.escape(bare)+r"(?![\w'-])",ex))<2: continue
+                nm2=next(v for v in ('r','q','g','place','place2') if not re.search(r"(?<![\w.'-])"+v+r"(?![\w'-])",ex))
+                ex=f'let {nm2} = {bare} in\n    '+re.sub(re.escape(bare)+r"(?![\w'-])",nm2,ex.strip())
             answers.append('\n'.join(comments+[f'pub {new} : goal.{new}']+unf+[f'{new} {" ".join([c]+[q for q in params[1:] if q != "κs"])} ='+(' ' if '\n' not in ex else '\n    ')+ex.strip()]))
         else:
             # a helper
@@ -288,6 +294,8 @@ def lets(fn,expr,env,problems,goal=None):
         restt=re.sub(r"(?<![\w.'₀-₉-])%s(?=\.)"%re.escape(v),root,restt)
         restt=re.sub('\0'+re.escape(v)+'\0([^\0]+)\0(\\d+)\0',lambda q:'\0'+root+'\0'+q[1]+'\0'+str(int(k)+int(q[2]))+'\0',restt)
         out=out[:m.start()]+restt
+    # a place handed to omega, which finds its facts itself
+    out=re.sub(r"omega \(arith, \0[^\0]+\0[^\0]+\0\d+\0\)","omega arith",out)
     def bare(m):
         root,place,k=m[1],m[2],int(m[3])
         if goal: return f'(goal.at.{goal} {root}).{fn.newplace.get(place,place)}'

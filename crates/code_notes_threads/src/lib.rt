@@ -1,4 +1,6 @@
 // The threads' section of a note: written, and read back.
+#![tactic(auto)]
+
 pub mod marks;
 pub mod thread_back;
 pub mod thread_notes;
