@@ -49,7 +49,8 @@ fn put_undo(out: &mut [u8], a: Answer, used: usize) -> usize {
 
 // ---- forward
 
-// The whole records of s, and their lines in the lent room; a shorter tail is dropped. The state keeps its rules, and so does every state after it, so that
+// The whole records of s, and their lines in the lent room; a shorter tail is dropped. The state keeps its rules, and so does every state
+// after it, so that
 // no call tests them again. A call never shortens the used part of the log.
 fn forward(start: Run, s: &[u8], log: &mut [u8], out: &mut [u8]) -> Part
     requires { Rules start.kernel }
