@@ -4,7 +4,7 @@ import re,sys
 text=sys.stdin.read()
 n=0
 done=set()
-for m in re.finditer(r"^(\./\S+?):(\d+):(\d+): error: [^\n]*has no field `(\d+)`[^\n]*\n?[^\n]*fields that can be named here are ([^\n]*)",text,re.M):
+for m in re.finditer(r"^(\./\S+?):(\d+):(\d+): error: [^\n]*has no field `(\d+)`(?:[^\n]*?|[^\n]*\n[^\n]*?)fields that can be named here are ([^\n]*)",text,re.M):
     f,line,col,num,names=m[1],int(m[2])-1,int(m[3])-1,int(m[4]),re.findall(r"`([^`]+)`",m[5])
     lines=open(f,encoding='utf8').read().split('\n')
     l=lines[line]

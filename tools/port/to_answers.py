@@ -75,8 +75,9 @@ def turn_expr(fn, text, env, problems):
         problems.append(m[0]+' at '+place)
         return var+'.'+f
     text=CH.sub(sub,text)
-    # what a helper gives: (next c).loop.k
-    return re.sub(r"(?<=\))((?:\.before)*)\.([a-z][\w-]*)",lambda m: m[1]+'.'+fn.steps.get(norm(m[2]),m[2]),text)
+    # what a helper gives, where that is a place: (next c).loop.k
+    return re.sub(r"(\(([\w'₀-₉-]+) (?:[^()]|\([^()]*\))*\)(?:\.before)*)\.([a-z][\w-]*)",
+        lambda m: m[1]+'.'+fn.steps.get(norm(m[3]),m[3]) if m[2] in fn.gives_place else m[0],text)
 
 def fn_params(cratedir, rel):
     parts=rel.split('/')
@@ -152,6 +153,10 @@ def convert(names, cratedir, crate, path):
         body='\n'.join(spec[0])
         m=re.search(r'tie\.spec\b([^)]*)\)',body)
         order=m[1].split()
+    fn.gives_place=set()
+    for b in items:
+        m=re.match(r"(?:(?:abbrev|pub|unfoldable) )*([\w'₀-₉-]+) : (.*)",' '.join(l.strip() for l in b if not l.startswith('--')))
+        if m and re.search(r"→ tie\.[A-Z][^→]*$",re.split(r" unfolding | "+re.escape(m[1])+" ",m[2])[0]): fn.gives_place.add(m[1])
     decl={}
     for b in items:
         sig=[l for l in b if not l.startswith('--')][0]

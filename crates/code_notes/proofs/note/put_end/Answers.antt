@@ -1,6 +1,5 @@
 use Prim.Native.Nat.{min}
 use mathlib.Core.Path.{◌≡◌}
-use borrow.Author.Rules.{rules}
 use Rattle.spec_notes.specs.Notes.{longest_note}
 use Rattle.code_notes.proofs.note.put_end.Goals as goal
 

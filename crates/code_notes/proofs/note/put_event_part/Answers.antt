@@ -5,7 +5,6 @@ use mathlib.Core.Path.{◌≡◌, ap, ◌∙◌}
 use mathlib.Core.List.{List, ◌++◌}
 use native.Mathlib.Omega.{arith}
 use lib.ListN.{replicate}
-use borrow.Author.Rules.{rules}
 use Rattle.spec_kernel.specs.Sizes.{event_count}
 use Rattle.base_bytes.proofs.Writing.{puts_append}
 use Rattle.base_bytes.specs.Pens.{pen, puts}

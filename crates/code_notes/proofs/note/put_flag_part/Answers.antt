@@ -1,6 +1,5 @@
 -- `code_notes::note::put_flag_part` meets its contract: the part is written to a scratch array that is long enough, and then behind its
 -- length.
-use borrow.Author.Rules.{rules}
 use Rattle.spec_notes.specs.Predicted.{predicted_flags}
 use Rattle.spec_notes.specs.Sections.{flags_noted}
 use Rattle.spec_notes.proofs.EntriesShort.{flags_short}

@@ -1,7 +1,6 @@
 -- `code_notes::note::put_semaphore_part` meets its contract: the part is written to a scratch array that is long enough, and then behind
 -- its length.
 use native.Mathlib.Omega.{arith}
-use borrow.Author.Rules.{rules}
 use Rattle.spec_kernel.specs.Sizes.{semaphore_count}
 use Rattle.base_bytes.specs.Bytes.{le}
 use Rattle.spec_notes.specs.Sections.{semaphore_entries}

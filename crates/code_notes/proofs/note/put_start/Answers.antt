@@ -1,6 +1,5 @@
 -- `code_notes::note::put_start` meets its contract: the record, and the part behind its length from a scratch array that is long enough.
 use mathlib.Core.Path.{◌∙◌}
-use borrow.Author.Rules.{rules}
 use Rattle.spec_notes.specs.Sections.{scheduler_section}
 use Rattle.spec_notes.proofs.EntriesShort.{scheduler_short}
 use Rattle.code_notes.proofs.ScratchParts.{Held, held_length, held}

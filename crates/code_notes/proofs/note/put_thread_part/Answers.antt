@@ -1,6 +1,5 @@
 -- `code_notes::note::put_thread_part` meets its contract: the part is written to a scratch array that is long enough, and then behind its
 -- length.
-use borrow.Author.Rules.{rules}
 use Rattle.base_bytes.specs.Bytes.{le}
 use Rattle.spec_moves.specs.Standing.{threads_of}
 use Rattle.spec_notes.specs.Sections.{thread_entries}
