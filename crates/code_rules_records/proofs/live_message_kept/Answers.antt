@@ -7,7 +7,7 @@ use Rattle.code_rules_records.proofs.live_message_kept.Goals as goal
 use Rattle.code_rules_records.proofs.live_message_kept.Goals.{Else-not-owner}
 
 lives : (c : Else-not-owner) → c.args.owner.live ≡ true
-lives c = not-false _ c.if-not-owner.false
+lives c = not-false c.args.owner.live c.if-not-owner.false
 
 pub returns-then-r-ge-THREAD_IDS : goal.returns-then-r-ge-THREAD_IDS
 unfolding live_message_by
