@@ -1,5 +1,4 @@
 -- `code_answers_undo::asked_by` meets its contract: each flag as its section says, and its kind.
-use borrow.Author.Rules.{rules}
 use Rattle.code_answers_undo.proofs.asked_by.Goals as goal
 
 pub returns : goal.returns

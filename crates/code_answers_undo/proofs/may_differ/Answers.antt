@@ -1,5 +1,4 @@
 -- `code_answers_undo::may_differ` meets its contract: the kind, else the section.
-use borrow.Author.Rules.{rules}
 use borrow.Author.Tests.{eq-eqb, ne_eqb}
 use Rattle.code_answers_undo.proofs.may_differ.Goals as goal
 

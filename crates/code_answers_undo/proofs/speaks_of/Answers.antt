@@ -3,7 +3,6 @@ use Prim.Native.Nat.{ℕ}
 use mathlib.Core.Path.{ap, ◌∙◌}
 use mathlib.Core.Bool.{not}
 use mathlib.Core.List.{List}
-use borrow.Author.Rules.{rules}
 use Rattle.base_queue.specs.Lists.{is_empty}
 use Rattle.code_answers_undo.proofs.Sections.{no_length}
 use Rattle.code_answers_undo.proofs.speaks_of.Goals as goal

@@ -5,8 +5,6 @@ use mathlib.Core.Bool.{true, false}
 use mathlib.Core.List.{List}
 use lib.ListN.{length, take}
 use lib.Seq.{length-take-le}
-use borrow.Author.Tests.{not-true, not-false}
-use borrow.Author.Rules.{rules}
 use Rattle.base_bytes.specs.Bytes.{begins}
 use Rattle.spec_kernel.specs.declared.records.Kernel.{Kernel}
 use Rattle.spec_rules.specs.declared.tests.Asked.{Asked}
@@ -45,8 +43,8 @@ asked₀ c = c.args.asked
 abbrev note₀ : After-recorded-l → List ℕ
 note₀ c = c.args.note.now
 
-rules : (c : After-recorded-l) → keeps_asked (asked₀ c) (old₀ c) ≡ true
-rules c = let t = c.keeps_asked in sym t.ensures ∙ c.if-not-keeps_asked.false
+tested : (c : After-recorded-l) → keeps_asked (asked₀ c) (old₀ c) ≡ true
+tested c = let t = c.keeps_asked in sym t.ensures ∙ c.if-not-keeps_asked.false
 
 sixteen : (c : After-recorded-l) → length (bytes₀ c) ≡ 16
 sixteen c = c.well_formed.1.0.1.0.1
@@ -55,15 +53,15 @@ pub returns-then-l-ne0 : goal.returns-then-l-ne0
 returns-then-l-ne0 c =
     let r = (goal.at.returns-then-l-ne0 c).After-recorded-l in
     λ l.
-    again_refused (asked₀ r) (old₀ r) (bytes₀ r) (end₀ r) (note₀ r) l (rules r)
+    again_refused (asked₀ r) (old₀ r) (bytes₀ r) (end₀ r) (note₀ r) l (tested r)
     (run_refused (old₀ r) (bytes₀ r) (sixteen r) _ c.recorded-l.ensures.result c.if-l-ne0.true)
 
 -- where it answers 0: it was accepted, the next state, and that the note stands in front
 ran : (c : After-recorded-l) → c.recorded-l.result.answer.number ≡ 0
     → let l = c.recorded-l.result in
     (number_of (old₀ c) (call_of (bytes₀ c)) ≡ 0) × (l.kernel ≡ state_after (old₀ c) (bytes₀ c))
-    × (l.used ≤ length c.recorded-l.new.bytes.1.0)
-    × (take l.used c.recorded-l.new.1.1.0 ≡ note_for (old₀ c) (bytes₀ c)) × (l.used ≡ length (note_for (old₀ c) (bytes₀ c)))
+    × (l.used ≤ length c.recorded-l.new.log)
+    × (take l.used c.recorded-l.new.log ≡ note_for (old₀ c) (bytes₀ c)) × (l.used ≡ length (note_for (old₀ c) (bytes₀ c)))
 ran c z =
     let e = c.recorded-l.ensures in
     let (x, y, w) = note_stands (old₀ c) (bytes₀ c) (sixteen c) _ e.result z _ e.written in (
@@ -79,7 +77,7 @@ returns-then-n-note c =
     let r = (goal.at.returns-then-n-note c).After-recorded-l in
     λ l.
     let (n, _, _, _, w) = ran r c.if-l-ne0.false in
-    again-other (asked₀ r) (old₀ r) (bytes₀ r) (end₀ r) (note₀ r) l (rules r) n
+    again-other (asked₀ r) (old₀ r) (bytes₀ r) (end₀ r) (note₀ r) l (tested r) n
     (other_length_lem (note_for (old₀ r) (bytes₀ r)) (note₀ r) (λ h. c.if-n-note.true (w ∙ h)))
 
 pub slice_bounds-again-end : goal.slice_bounds-again-end
@@ -90,26 +88,28 @@ slice_bounds-same_bytes-end c = sym (length-take-le _ _ (ran (goal.at.slice_boun
 
 -- which says whether its note is the one that was given
 compared : (c : After-same_bytes)
-    → c.same_bytes.result ≡ same_row (note_for (old₀ c.before.before.before.before.before.before) (bytes₀ c.before.before.before.before.before.before)) (note₀ c.before.before.before.before.before.before)
-compared c =
-    let (_, _, _, t, w) = ran c.before.before.before.before.before.before c.if-l-ne0.false in
-    let note = note_for (old₀ c.before.before.before.before.before.before) (bytes₀ c.before.before.before.before.before.before) in
-    let b : begins (take c.recorded-l.result.used c.recorded-l.last.1.1.0) (note₀ c.before.before.before.before.before.before) ≡ begins note (note₀ c.before.before.before.before.before.before) = rw t in
-    c.same_bytes.ensures ∙ b ∙ begins_same note (note₀ c.before.before.before.before.before.before) (sym w ∙ c.if-n-note.false)
+    → (let note = note_for c.args.old c.args.bytes in
+    take c.recorded-l.result.used c.recorded-l.new.log ≡ note → c.recorded-l.result.used ≡ length note
+    → c.same_bytes.result ≡ same_row note c.args.note.now)
+compared c t w =
+    let note = note_for c.args.old c.args.bytes in
+    let told = c.args.note.now in
+    let b : begins (take c.recorded-l.result.used c.recorded-l.new.log) told ≡ begins note told = rw t in
+    c.same_bytes.ensures ∙ b ∙ begins_same note told (sym w ∙ c.if-n-note.false)
 
 pub returns-then-not-same_bytes : goal.returns-then-not-same_bytes
 returns-then-not-same_bytes c =
     let r = (goal.at.returns-then-not-same_bytes c).After-recorded-l in
     λ l.
-    let (n, _, _, _, _) = ran r c.if-l-ne0.false in
-    again-other (asked₀ r) (old₀ r) (bytes₀ r) (end₀ r) (note₀ r) l (rules r) n
-    (sym (sym (compared (goal.at.returns-then-not-same_bytes c).After-same_bytes) ∙ c.if-not-same_bytes.true))
+    let (n, _, _, t, w) = ran r c.if-l-ne0.false in
+    again-other (asked₀ r) (old₀ r) (bytes₀ r) (end₀ r) (note₀ r) l (tested r) n
+    (sym (sym (compared (goal.at.returns-then-not-same_bytes c).After-same_bytes t w) ∙ c.if-not-same_bytes.true))
 
 pub returns : goal.returns
 returns c =
     let r = (goal.at.returns c).After-recorded-l in
     λ l.
-    let (n, e, _, _, _) = ran r c.if-l-ne0.false in
+    let (n, e, _, t, w) = ran r c.if-l-ne0.false in
     c.same_asked.ensures
-    ∙ again-same (asked₀ r) (old₀ r) (bytes₀ r) (end₀ r) (note₀ r) l (rules r) n
-    (sym (sym (compared (goal.at.returns c).After-same_bytes) ∙ c.if-not-same_bytes.false)) _ e
+    ∙ again-same (asked₀ r) (old₀ r) (bytes₀ r) (end₀ r) (note₀ r) l (tested r) n
+    (sym (sym (compared (goal.at.returns c).After-same_bytes t w) ∙ c.if-not-same_bytes.false)) _ e

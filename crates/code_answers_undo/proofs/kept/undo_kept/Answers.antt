@@ -2,8 +2,6 @@
 use mathlib.Core.Path.{◌≡◌, sym, ◌∙◌}
 use mathlib.Core.Bool.{true, false}
 use native.Mathlib.Omega.{arith}
-use borrow.Author.Rules.{rules}
-use borrow.Author.Tests.{not-true, not-false}
 use Rattle.spec_notes.specs.Within.{AreBytes}
 use Rattle.spec_notes.specs.Undo.{has_last}
 use Rattle.spec_notes.specs.Undoes.{undoes_kept}

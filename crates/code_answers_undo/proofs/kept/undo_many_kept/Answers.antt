@@ -1,12 +1,11 @@
 -- `code_answers_undo::kept::undo_many_kept` meets its contract: after i turns i notes are undone, and the others are still to come.
-use Prim.Native.Nat.{◌≤◌, ◌-◌}
-use mathlib.Core.Path.{◌≡◌, sym, ap, ◌∙◌}
+use Prim.Native.Nat.{◌-◌}
+use mathlib.Core.Path.{sym, ap, ◌∙◌}
 use native.Mathlib.Omega.{arith}
 use borrow.Author.Rules.{rules}
 use Rattle.spec_answers.specs.declared.Logged.{Logged}
-use Rattle.spec_answers.specs.Steps.{answer}
-use Rattle.spec_answers.specs.Logs.{logged, reached, undone_kept, many_by}
-use Rattle.code_answers_undo.proofs.Turns.{left, begin, led, turn, stop, end}
+use Rattle.spec_answers.specs.Logs.{reached}
+use Rattle.code_answers_undo.proofs.Turns.{begin, led, turn, stop, end}
 use Rattle.code_answers_undo.proofs.kept.undo_many_kept.Goals as goal
 
 pub loop-i-init : goal.loop-i-init
