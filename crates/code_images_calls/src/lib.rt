@@ -1,5 +1,7 @@
 // A call and an undo on an image that stands in lent room. Both are done on the state that is read from it, and what is new is written
 // only once all of it is known to fit.
+#![tactic(auto)]
+
 ghost use Rattle.std.specs.Prelude.{◌≡◌, cond, leb, length, ◌+◌};
 ghost use Rattle.spec_answers.specs.Steps.{answer};
 ghost use Rattle.spec_answers.specs.Logs.{recorded, log_after, undone_kept};

@@ -6,10 +6,10 @@ use lib.ListN.{length, length-append}
 use Rattle.base_bytes.proofs.Numbers.{length_le}
 use Rattle.spec_kernel.specs.declared.records.Kernel.{Kernel}
 use Rattle.spec_kernel.specs.Sizes.{thread_count, semaphore_count, event_count, message_count}
-use Rattle.spec_moves.specs.Standing.{threads_of, posts_of}
+use Rattle.spec_moves.specs.Standing.{posts_of}
 use Rattle.spec_notes.proofs.EntriesShort.{threads_run, semaphores_run, events_run, messages_run}
 use Rattle.spec_notes.proofs.FramesRead.{Short, none, more}
-use Rattle.spec_images.specs.Images.{no_call, no_threads, no_semaphores, fresh_events, no_posts, scheduler_stored, threads_stored}
+use Rattle.spec_images.specs.Images.{no_call, no_semaphores, fresh_events, no_posts, scheduler_stored, threads_stored}
 use Rattle.spec_images.specs.Images.{semaphores_stored, events_stored, flags_stored, messages_stored, stored_sections, image_of}
 use Rattle.spec_images.specs.Images.{longest_image}
 use Rattle.spec_images.specs.Promises.{ImagesAreShort}
@@ -25,7 +25,7 @@ module _ (k : Kernel) where
 
   pub threads_below : length (threads_stored k) ≤ 15 * thread_count
   unfolding threads_stored
-  threads_below = threads_run no_call (threads_of k) no_threads.records k.runner 0 thread_count
+  threads_below = search (arith, threads_run)
 
   pub semaphores_below : length (semaphores_stored k) ≤ 15 * semaphore_count
   unfolding semaphores_stored

@@ -3,6 +3,7 @@ use Prim.Native.Nat.{ℕ}
 use mathlib.Core.Path.{◌≡◌, ap, sym, ◌∙◌}
 use mathlib.Core.Bool.{Bool, true}
 use mathlib.Core.List.{List}
+use native.Mathlib.Omega.{arith}
 use lib.ListN.{length, take, replicate}
 use Rattle.base_bytes.specs.Bytes.{begins}
 use Rattle.base_bytes.specs.Pens.{pen, puts}
@@ -48,7 +49,7 @@ pub returns-then-n-s : goal.returns-then-n-s
 returns-then-n-s c =
     let r = (goal.at.returns-then-n-s c).After-put_image-n in
     c.nothing-then-n-s.ensures
-    ∙ read_other (bytes_of r) (kept r) (sym (other_length_lem (told r) (bytes_of r) (λ h. c.if-n-s.true (as_long r ∙ h))))
+    ∙ read_other (bytes_of r) (kept r) (sym (other_length_lem (told r) (bytes_of r) (λ h. omega (arith, c.if-n-s.true, as_long r, h))))
 
 pub slice_bounds-again-end : goal.slice_bounds-again-end
 slice_bounds-again-end c = (again (goal.at.slice_bounds-again-end c).After-put_image-n).within
