@@ -82,7 +82,7 @@ def print_images(host, proved, work, seeds, runs):
             for command, times in ((host + ' rounds 16', image), (proved + 'app_rounds', state)):
                 took, out = timed(command, '%s/log%d' % (work, seed))
                 times.append(took / calls_or_undos(out.decode()) * 1e9)
-    print('\n| where programs for x86-64 run: ns | on an image | on a state | ratio |\n|---|---|---|---|')
+    print('\n| on the processor: ns | on an image | on a state | ratio |\n|---|---|---|---|')
     cells = ['%.0f (%.0f to %.0f)' % (statistics.median(t), min(t), max(t)) for t in (image, state)]
     print('| a call forwards with its note | %s | %s | %.1f |' % (*cells, statistics.median(image) / statistics.median(state)))
 

@@ -2,10 +2,14 @@
 // in one call. Behind it come at most 4,096 records, which are run once from fresh with all notes in one log, and no line for a call; then
 // 64 times, each time from that end, every note is undone. It prints how many records there are, and of all rounds the undos, the bytes of
 // notes that were left, and how many rounds ended in the fresh state.
+#![tactic(auto)]
+
 ghost use Rattle.spec_rules.specs.Rules.{Rules};
 
+use base_lines::input::read_full;
 use replay::undos;
 use spec_kernel::records::Kernel;
+use std::io;
 
 // A state, and how much of the log is used.
 #[derive(Clone, Copy)]
@@ -109,26 +113,24 @@ fn all_rounds(single: bool, end: Kernel, log: &[u8; 1048576], used: usize) -> To
 }
 
 // The one line of the program.
-fn finished(records: u64, total: Total) {
-    io::write_all(1, b"records ");
-    io::print_decimal(1, records);
-    io::write_all(1, b" rounds 64 undone ");
-    io::print_decimal(1, total.undone);
-    io::write_all(1, b" left ");
-    io::print_decimal(1, total.left);
-    io::write_all(1, b" fresh ");
-    io::print_decimal(1, total.fresh);
-    io::write_all(1, b"\n");
+fn finished(rt: &impl Print, records: u64, total: Total) -> io::Result<()> {
+    let Total {
+        undone,
+        left,
+        fresh,
+    } = total;
+    println!(rt; "records {records} rounds 64 undone {undone} left {left} fresh {fresh}")
 }
 
-fn main() {
+fn main(rt: HostRuntime) -> io::Result<()> {
+    let mut input = rt.reader();
     let mut log = [0u8; 1048576];
     let mut way = [0u8; 1];
-    io::read_full(0, &mut way);
-    let mut input = io::large_buffer();
-    let n = io::read_full(0, &mut input);
-    let run = forward(&input[..n], &mut log);
+    read_full(&mut input, &mut way)?;
+    let mut records = [0u8; 65536];
+    let n = read_full(&mut input, &mut records)?;
+    let run = forward(&records[..n], &mut log);
     let used = run.used;
     let total = all_rounds(way[0] == b's', run.kernel, &log, used);
-    finished((n / 16) as u64, total)
+    finished(&rt, (n / 16) as u64, total)
 }

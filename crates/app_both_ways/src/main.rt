@@ -1,10 +1,15 @@
 // Both ways: records from standard input to its end, a line each, with all notes in one log; then every note undone, a line
 // each, the uptime, and whether the state is the fresh one again.
+#![tactic(auto)]
+
+ghost use Rattle.std.specs.Prelude.{IfOk};
 ghost use Rattle.spec_rules.specs.Rules.{Rules};
 
 use base_bytes::pens;
+use base_lines::input::read_full;
 use spec_answers::Answer;
 use spec_kernel::records::Kernel;
+use std::io;
 
 // Where a run stands: its state, how much of the log is used, and the records seen so far.
 #[derive(Clone, Copy)]
@@ -12,6 +17,13 @@ struct Run {
     kernel: Kernel,
     used: usize,
     serial: u64,
+}
+
+// A part of the input that has run: where the run stands then, and where its lines end.
+#[derive(Clone, Copy)]
+struct Part {
+    run: Run,
+    end: usize,
 }
 
 // ---- the lines
@@ -37,13 +49,13 @@ fn put_undo(out: &mut [u8], a: Answer, used: usize) -> usize {
 
 // ---- forward
 
-// The whole records of s, and their lines; a shorter tail is dropped. The state keeps its rules, and so does every state after it, so that
+// The whole records of s, and their lines in the lent room; a shorter tail is dropped. The state keeps its rules, and so does every state
+// after it, so that
 // no call tests them again. A call never shortens the used part of the log.
-fn forward(start: Run, s: &[u8], log: &mut [u8]) -> Run
+fn forward(start: Run, s: &[u8], log: &mut [u8], out: &mut [u8]) -> Part
     requires { Rules start.kernel }
-    ensures { Rules result.kernel }
+    ensures { Rules result.run.kernel }
 {
-    let mut out = [0u8; 16384];
     let mut run = start;
     let mut end: usize = 0;
     let mut at: usize = 0;
@@ -51,7 +63,7 @@ fn forward(start: Run, s: &[u8], log: &mut [u8]) -> Run
         let l = replay::recorded(run.kernel, replay::call_bytes(&s[at..]), log, run.used);
         let n = std::num::wrapping_add_u64(run.serial, 1);
         let note = std::num::wrapping_sub_usize(l.used, run.used);
-        end = put_call(&mut out, end, n, l.answer, note);
+        end = put_call(out, end, n, l.answer, note);
         let state = l.kernel;
         run = Run {
             kernel: state,
@@ -60,69 +72,68 @@ fn forward(start: Run, s: &[u8], log: &mut [u8]) -> Run
         };
         at += 16;
     }
-    io::write_all(1, base_lines::up_to(&out, end));
-    run
+    Part { run: run, end: end }
 }
 
-// Standard input to its end, from fresh, in chunks.
-fn all_forward(log: &mut [u8; 1048576]) -> Run
-    ensures { Rules result.kernel }
+// Standard input to its end, from fresh, in chunks. An error ends the run where it stands.
+fn all_forward(rt: &(impl Input + Print), log: &mut [u8; 1048576]) -> io::Result<Run>
+    ensures { IfOk result (λ r. Rules r.kernel) }
 {
-    let mut input = io::buffer();
+    let mut input = rt.reader();
+    let mut chunk = [0u8; 4096];
+    let mut out = [0u8; 16384];
     let mut run = Run {
         kernel: replay::fresh(),
         used: 0,
         serial: 0,
     };
-    let mut turns: u64 = 18446744073709551615;
-    while 0 < turns {
-        let n = io::read_full(0, &mut input);
-        run = forward(run, &input[..n], log);
+    for _ in 0..u64::MAX {
+        let n = read_full(&mut input, &mut chunk)?;
+        let part = forward(run, &chunk[..n], log, &mut out);
+        run = part.run;
+        rt.write_all(base_lines::up_to(&out, part.end))?;
         if n < 4096 {
-            return run;
+            break;
         }
-        turns -= 1;
     }
-    run
+    Ok(run)
 }
 
 // ---- backwards
 
 // Every note undone, until an undo is refused; the state that is left. The state keeps its rules, and so does every state that an undo
 // gives, so that no undo tests those of the state that it is given.
-fn backwards(k: Kernel, log: &[u8; 1048576], used: usize) -> Kernel
+fn backwards(rt: &impl Print, k: Kernel, log: &[u8; 1048576], used: usize) -> io::Result<Kernel>
     requires { Rules k }
 {
     let mut out = [0u8; 64];
     let mut l = replay::undo_kept(k, log, used);
-    let mut turns: u64 = 18446744073709551615;
-    while 0 < turns {
+    for _ in 0..u64::MAX {
         if l.answer.number != 0 {
-            return l.kernel;
+            break;
         }
         let end = put_undo(&mut out, l.answer, l.used);
-        io::write_all(1, base_lines::up_to(&out, end));
+        rt.write_all(base_lines::up_to(&out, end))?;
         let state = l.kernel;
         l = replay::undo_kept(state, log, l.used);
-        turns -= 1;
     }
-    l.kernel
+    Ok(l.kernel)
 }
 
 // The last two lines.
-fn finished(k: Kernel) {
-    io::write_all(1, b"uptime ");
-    io::print_decimal(1, k.uptime as u64);
+fn finished(rt: &impl Print, k: Kernel) -> io::Result<()> {
+    let uptime = k.uptime;
+    println!(rt; "uptime {uptime}")?;
     if replay::same_kernel(k, replay::fresh()) {
-        io::write_all(1, b"\nfresh\n");
+        println!(rt; "fresh")
     } else {
-        io::write_all(1, b"\nother\n");
+        println!(rt; "other")
     }
 }
 
-fn main() {
+fn main(rt: HostRuntime) -> io::Result<()> {
     let mut log = [0u8; 1048576];
-    let run = all_forward(&mut log);
+    let run = all_forward(&rt, &mut log)?;
     let used = run.used;
-    finished(backwards(run.kernel, &log, used))
+    finished(&rt, backwards(&rt, run.kernel, &log, used)?)
 }

@@ -1,8 +1,12 @@
 // A program for timing: at most 4,096 records from standard input, run 256 times, each time from fresh with an empty log, and
 // no line for a call. It prints how many records a round has, and of all rounds the accepted calls and the bytes of their notes.
+#![tactic(auto)]
+
 ghost use Rattle.spec_rules.specs.Rules.{Rules};
 
+use base_lines::input::read_full;
 use spec_kernel::records::Kernel;
+use std::io;
 
 // The accepted calls and the bytes of their notes, of one round or of all so far.
 #[derive(Clone, Copy)]
@@ -57,20 +61,14 @@ fn all_rounds(s: &[u8], log: &mut [u8; 1048576]) -> Total {
 }
 
 // The one line of the program.
-fn finished(records: u64, accepted: u64, bytes: u64) {
-    io::write_all(1, b"records ");
-    io::print_decimal(1, records);
-    io::write_all(1, b" rounds 256 accepted ");
-    io::print_decimal(1, accepted);
-    io::write_all(1, b" bytes ");
-    io::print_decimal(1, bytes);
-    io::write_all(1, b"\n");
+fn finished(rt: &impl Print, records: u64, accepted: u64, bytes: u64) -> io::Result<()> {
+    println!(rt; "records {records} rounds 256 accepted {accepted} bytes {bytes}")
 }
 
-fn main() {
+fn main(rt: HostRuntime) -> io::Result<()> {
     let mut log = [0u8; 1048576];
-    let mut input = io::large_buffer();
-    let n = io::read_full(0, &mut input);
-    let total = all_rounds(&input[..n], &mut log);
-    finished((n / 16) as u64, total.accepted, total.bytes)
+    let mut records = [0u8; 65536];
+    let n = read_full(&mut rt.reader(), &mut records)?;
+    let total = all_rounds(&records[..n], &mut log);
+    finished(&rt, (n / 16) as u64, total.accepted, total.bytes)
 }

@@ -1,4 +1,6 @@
 // A call with a log, on a state that keeps its rules.
+#![tactic(auto)]
+
 ghost use Rattle.std.specs.Prelude.{◌≡◌};
 ghost use Rattle.spec_answers.specs.Steps.{answer, next_state};
 ghost use Rattle.spec_answers.specs.Logs.{logged};

@@ -1,4 +1,6 @@
 // A note undone: put back, the rules tested, the call run again, and the note and the state compared.
+#![tactic(auto)]
+
 ghost use Rattle.std.specs.Prelude.{◌≡◌, true, not, cond, ◌||◌, [], get_or};
 ghost use Rattle.base_queue.specs.Lists.{is_empty};
 ghost use Rattle.spec_refusals.specs.Refusals.{is};

@@ -1,3 +1,5 @@
 // A stored state: its image, written and read.
+#![tactic(auto)]
+
 pub mod reading;
 pub mod writing;

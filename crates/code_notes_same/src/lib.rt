@@ -1,4 +1,6 @@
 // Whether two states are the same.
+#![tactic(auto)]
+
 ghost use Rattle.std.specs.Prelude.{◌≡◌, true, ◌↔◌};
 ghost use Rattle.spec_rules.specs.Tests.{all_of, if_asked};
 ghost use Rattle.spec_notes.specs.Touched.{same_row, same_thread, same_semaphore, same_event, same_message};

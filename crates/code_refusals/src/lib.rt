@@ -1,4 +1,6 @@
 // The refusals in table order, over what a call names.
+#![tactic(auto)]
+
 ghost use Rattle.std.specs.Prelude.{◌≡◌, ◌&&◌};
 ghost use Rattle.spec_calls.specs.Kinds.{kind_of};
 ghost use Rattle.spec_refusals.specs.Refusals.{outside, unknown, bad_number, bad_id, pops_nothing, stops_caller, blocks_in_region, none_free};

@@ -1,5 +1,7 @@
 // The entries for C programs, on numbers and byte slices; host/replay.h declares them. An answer is one number, whose bytes are the number,
 // the value and the runner, the lowest first.
+#![tactic(auto)]
+
 ghost use Rattle.std.specs.Prelude.{◌≡◌, cond, eqb};
 ghost use Rattle.spec_images.specs.OnImages.{record_or0};
 ghost use Rattle.spec_images.specs.ForC.{packed, FreshForC, RunForC, UndoForC};

@@ -10,12 +10,16 @@
 //   m        message of this id; then l for live, o owner, n sender, z size, h channel, and * for all messages like it
 //   b u v r  the event bits, the unscheduled and the critical level, the runner
 //   g        the live flags, a bit each
+#![tactic(auto)]
+
 ghost use Rattle.std.specs.Prelude.{◌≤◌, length};
 
+use base_lines::input::read_full;
 use base_queue::{CAPACITY, Queue};
 use replay::images;
 use spec_kernel::records::{Condition, Event, Kernel, Message, Semaphore, Thread, Wake};
 use spec_kernel::sizes;
+use std::io;
 
 // What a line changes: a kind of record with its id, or a table.
 #[derive(Clone, Copy)]
@@ -330,30 +334,29 @@ fn made(k: Kernel, s: &[u8]) -> Kernel {
 // ---- the lines
 
 // Of the state's image: the number that writing it gets, its length, and whether reading it gives the state.
-fn show_image(k: Kernel) {
+fn show_image(rt: &impl Print, k: Kernel) -> io::Result<()> {
     let mut room = [0u8; 2048];
     let w = images::write(k, &mut room);
-    io::print_decimal(1, w.number as u64);
-    io::write_all(1, b" ");
-    io::print_decimal(1, w.length as u64);
+    let (number, length) = (w.number, w.length);
+    print!(rt; "{number} {length}")?;
     let r = images::read(base_lines::up_to(&room, w.length));
     let kernel = r.kernel;
     if replay::same_kernel(kernel, k) {
-        io::write_all(1, b" same\n");
+        println!(rt; " same")
     } else {
-        io::write_all(1, b" other\n");
+        println!(rt; " other")
     }
 }
 
 // A line of the output: the state's name, what the test says, and its image.
-fn show(name: &[u8], k: Kernel) {
-    io::write_all(1, name);
+fn show(rt: &impl Print, name: &[u8], k: Kernel) -> io::Result<()> {
+    rt.write_all(name)?;
     if code_rules::keeps_rules(k) {
-        io::write_all(1, b" kept ");
+        print!(rt; " kept ")?;
     } else {
-        io::write_all(1, b" broken ");
+        print!(rt; " broken ")?;
     }
-    show_image(k);
+    show_image(rt, k)
 }
 
 // The first place of b from `at` on, or the end.
@@ -372,23 +375,24 @@ fn place_of(s: &[u8], at: usize, b: u8) -> usize
 }
 
 // The first line makes the busy state; of each later one, the name stands before the bar and the state's changes behind it.
-fn show_all(s: &[u8]) {
+fn show_all(rt: &impl Print, s: &[u8]) -> io::Result<()> {
     let mut at = place_of(s, 0, b'\n');
     let busy = made(code_kernel::records::fresh(), &s[..at]);
     while at < s.len() {
         let from = at + 1;
         if from == s.len() {
-            return;
+            return Ok(());
         }
         let bar = place_of(s, from, b'|');
         let end = place_of(s, bar, b'\n');
-        show(&s[from..bar], made(busy, &s[bar..end]));
+        show(rt, &s[from..bar], made(busy, &s[bar..end]))?;
         at = end;
     }
+    Ok(())
 }
 
-fn main() {
+fn main(rt: HostRuntime) -> io::Result<()> {
     let mut input = [0u8; 16384];
-    let n = io::read_full(0, &mut input);
-    show_all(&input[..n]);
+    let n = read_full(&mut rt.reader(), &mut input)?;
+    show_all(&rt, &input[..n])
 }

@@ -22,12 +22,16 @@
 // three times for each record. Every full, short and beyond is refused. How many of the others are accepted is not known from
 // outside: a flipped byte may be an old value that some other state had, and where the last note is missing, the one before it may be
 // undone from the later state. The last line has all wrong ones; it must be 0.
+#![tactic(auto)]
+
 use base_bytes::bytes::{byte_at, same_bytes};
 use base_bytes::pens;
+use base_lines::input::read_full;
 use code_notes_frame::last;
 use replay::logs;
 use spec_answers::Logged;
 use spec_kernel::records::Kernel;
+use std::io;
 use try_entries::copies::copied;
 use try_entries::returned::{came_back, without_value};
 use try_entries::tallies::{Outcome, Tally, checked, counted, ended, nothing};
@@ -245,29 +249,33 @@ fn all(s: &[u8], log: &mut [u8; 16384], copy: &mut [u8; 16384]) -> Run {
 // ---- the lines
 
 // All lines.
-fn shown(h: Harm, used: usize) {
-    let a = report::line(b"full ", h.full, 0);
-    let b = report::line(b"records ", h.records, a);
-    let c = report::line(b"cut ", h.cut, b);
-    let d = report::line(b"short ", h.short, c);
-    let e = report::line(b"flipped ", h.flipped, d);
-    let wrong = report::line(b"beyond ", h.beyond, e);
-    io::write_all(1, b"used ");
-    io::print_decimal(1, used as u64);
-    io::write_all(1, b"\n");
-    report::verdict(wrong);
+fn shown(rt: &impl Print, h: Harm, used: usize) -> io::Result<()> {
+    let a = report::line(rt, b"full ", h.full, 0)?;
+    let b = report::line(rt, b"records ", h.records, a)?;
+    let c = report::line(rt, b"cut ", h.cut, b)?;
+    let d = report::line(rt, b"short ", h.short, c)?;
+    let e = report::line(rt, b"flipped ", h.flipped, d)?;
+    let wrong = report::line(rt, b"beyond ", h.beyond, e)?;
+    println!(rt; "used {used}")?;
+    report::verdict(rt, wrong)?;
+    Ok(())
 }
 
 // The run on arrays, which are lent whole.
-fn run_on(s: &[u8], log: &mut [u8; 16384], copy: &mut [u8; 16384]) {
+fn run_on(
+    rt: &impl Print,
+    s: &[u8],
+    log: &mut [u8; 16384],
+    copy: &mut [u8; 16384],
+) -> io::Result<()> {
     let run = all(s, log, copy);
-    shown(run.harm, run.used)
+    shown(rt, run.harm, run.used)
 }
 
-fn main() {
+fn main(rt: HostRuntime) -> io::Result<()> {
     let mut log = [165u8; 16384];
     let mut copy = [165u8; 16384];
-    let mut input = io::large_buffer();
-    let n = io::read_full(0, &mut input);
-    run_on(&input[..n], &mut log, &mut copy)
+    let mut records = [0u8; 65536];
+    let n = read_full(&mut rt.reader(), &mut records)?;
+    run_on(&rt, &records[..n], &mut log, &mut copy)
 }

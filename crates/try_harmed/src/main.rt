@@ -16,12 +16,16 @@
 // A line for the records of the run and one for the damaged states: how many were tried, and how many of them were broken (14),
 // refused for another reason, and accepted. A state has 34 fields (damage::FIELDS): 34 times the number of records is tried. The last line
 // has all wrong ones; it must be 0. How many are broken, refused or accepted depends on what was drawn.
+#![tactic(auto)]
+
 mod damage;
 
+use base_lines::input::read_full;
 use code_notes_frame::last;
 use replay::{logs, undos};
 use spec_answers::Logged;
 use spec_kernel::records::Kernel;
+use std::io;
 use try_entries::copies::copied;
 use try_entries::returned::{came_back, without_value};
 use try_entries::tallies::Tally;
@@ -224,21 +228,28 @@ fn all(s: &[u8], log: &mut [u8; 16384], copy: &mut [u8; 16384]) -> Run {
 }
 
 // The lines.
-fn shown(records: Tally, states: Tally) {
-    let some = report::line_of_states(b"records ", records, 0);
-    report::verdict(report::line_of_states(b"states ", states, some));
+fn shown(rt: &impl Print, records: Tally, states: Tally) -> io::Result<()> {
+    let some = report::line_of_states(rt, b"records ", records, 0)?;
+    let wrong = report::line_of_states(rt, b"states ", states, some)?;
+    report::verdict(rt, wrong)?;
+    Ok(())
 }
 
 // The run on arrays, which are lent whole.
-fn run_on(s: &[u8], log: &mut [u8; 16384], copy: &mut [u8; 16384]) {
+fn run_on(
+    rt: &impl Print,
+    s: &[u8],
+    log: &mut [u8; 16384],
+    copy: &mut [u8; 16384],
+) -> io::Result<()> {
     let run = all(s, log, copy);
-    shown(run.records, run.harm.states)
+    shown(rt, run.records, run.harm.states)
 }
 
-fn main() {
+fn main(rt: HostRuntime) -> io::Result<()> {
     let mut log = [165u8; 16384];
     let mut copy = [165u8; 16384];
-    let mut input = io::large_buffer();
-    let n = io::read_full(0, &mut input);
-    run_on(&input[..n], &mut log, &mut copy)
+    let mut records = [0u8; 65536];
+    let n = read_full(&mut rt.reader(), &mut records)?;
+    run_on(&rt, &records[..n], &mut log, &mut copy)
 }

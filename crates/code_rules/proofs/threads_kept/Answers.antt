@@ -7,7 +7,8 @@ use Rattle.code_rules_records.proofs.Answers.{refused, passed}
 use Rattle.code_rules_records.proofs.Runs.{stops, goes, ends}
 use Rattle.code_rules.proofs.Parts.{objects, semaphores_part, threads_part, places_part, time_part, no_conditions}
 use Rattle.code_rules.proofs.threads_kept.Goals as goal
-use Rattle.code_rules.proofs.threads_kept.Goals.{After-if_asked, After-of_threads-t, After-table_kept, After-table_kept-2, Else-not-if_asked, Else-not-t}
+use Rattle.code_rules.proofs.threads_kept.Goals.{After-if_asked, After-of_threads-t, After-table_kept, After-table_kept-2}
+use Rattle.code_rules.proofs.threads_kept.Goals.{Else-not-if_asked, Else-not-t}
 
 -- ---- what each part says
 semaphores_told : (c : After-if_asked) → c.if_asked.result ≡ if_asked c.args.asked.semaphores (semaphores_kept c.args.k)
@@ -41,23 +42,23 @@ returns-then-not-conditions_asked c =
 
 pub returns-then-not-if_asked : goal.returns-then-not-if_asked
 returns-then-not-if_asked c =
-    let at = goal.at.returns-then-not-if_asked c in
-    stops _ (refused (semaphores_told at.After-if_asked) c.if-not-if_asked.true)
+    let here = goal.at.returns-then-not-if_asked c in
+    stops _ (refused (semaphores_told here.After-if_asked) c.if-not-if_asked.true)
 
 pub returns-then-not-t : goal.returns-then-not-t
 returns-then-not-t c =
-    let at = goal.at.returns-then-not-t c in
-    goes (semaphores_pass at.Else-not-if_asked) (stops _ (refused (threads_told at.After-of_threads-t) (not-true _ c.if-not-t.true)))
+    let here = goal.at.returns-then-not-t c in
+    goes (semaphores_pass here.Else-not-if_asked) (stops _ (refused (threads_told here.After-of_threads-t) (not-true _ c.if-not-t.true)))
 
 pub returns-then-not-table_kept : goal.returns-then-not-table_kept
 returns-then-not-table_kept c =
-    let at = goal.at.returns-then-not-table_kept c in
-    goes (semaphores_pass at.Else-not-if_asked)
-    (goes (threads_pass at.Else-not-t) (stops _ (refused (places_told at.After-table_kept) c.if-not-table_kept.true)))
+    let here = goal.at.returns-then-not-table_kept c in
+    goes (semaphores_pass here.Else-not-if_asked)
+    (goes (threads_pass here.Else-not-t) (stops _ (refused (places_told here.After-table_kept) c.if-not-table_kept.true)))
 
 pub returns : goal.returns
 returns c =
-    let at = goal.at.returns c in
-    goes (semaphores_pass at.Else-not-if_asked)
-    (goes (threads_pass at.Else-not-t)
-    (goes (passed (places_told at.After-table_kept) c.if-not-table_kept.false) (ends (time_told at.After-table_kept-2))))
+    let here = goal.at.returns c in
+    goes (semaphores_pass here.Else-not-if_asked)
+    (goes (threads_pass here.Else-not-t)
+    (goes (passed (places_told here.After-table_kept) c.if-not-table_kept.false) (ends (time_told here.After-table_kept-2))))

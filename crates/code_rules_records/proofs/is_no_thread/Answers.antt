@@ -48,11 +48,14 @@ returns-then-not-ready_for c =
 pub returns-then-r-ne0-3 : goal.returns-then-r-ne0-3
 unfolding is_no_thread
 returns-then-r-ne0-3 c =
+    let here = goal.at.returns-then-r-ne0-3 c in
     let r = c.args.r in
-    rw (eq-eqb r.priority 0 (omega arith), eq-eqb r.first 0 (omega arith), ready (goal.at.returns-then-r-ne0-3 c).Else-not-ready_for, ne_eqb _ _ c.if-r-ne0-3.true)
+    rw (eq-eqb r.priority 0 (omega arith), eq-eqb r.first 0 (omega arith), ready here.Else-not-ready_for, ne_eqb _ _ c.if-r-ne0-3.true)
 
 pub returns-then-not-no_wake : goal.returns-then-not-no_wake
-returns-then-not-no_wake c = rw (unticked (goal.at.returns-then-not-no_wake c).Else-r-ne0-3, refused c.no_wake.ensures c.if-not-no_wake.true)
+returns-then-not-no_wake c =
+    let here = goal.at.returns-then-not-no_wake c in
+    rw (unticked here.Else-r-ne0-3, refused c.no_wake.ensures c.if-not-no_wake.true)
 
 pub returns : goal.returns
 returns c = rw (unticked (goal.at.returns c).Else-r-ne0-3, passed c.no_wake.ensures c.if-not-no_wake.false, and-true)

@@ -5,14 +5,13 @@ use mathlib.Core.Path.{◌≡◌}
 use mathlib.Core.Bool.{Bool, true, false, ◌&&◌, ◌||◌, or-true}
 use native.Mathlib.Omega.{arith}
 use lib.Dec.{eqb, ltb, leb}
-use borrow.Author.Tests.{eq-eqb, ne_eqb, lt-ltb, le-ltb, le-leb, lt-leb, ltb-true}
+use borrow.Author.Tests.{eq-eqb, ne_eqb, lt-ltb, le-ltb, le-leb, lt-leb, ltb-true, ltb-false}
 use borrow.Table.Steps.{cases}
 use Rattle.spec_kernel.specs.Sizes.{message_count, priority_count}
 use Rattle.spec_kernel.specs.declared.records.Thread.{Thread}
 use Rattle.code_rules_records.specs.Others.{condition_by, live_thread_by}
 use Rattle.code_rules_records.proofs.Runs.{stops, goes, ends}
 use Rattle.code_rules_records.proofs.live_thread_kept.Goals as goal
-use Rattle.code_rules_records.proofs.live_thread_kept.Goals.{then-r-ge-MESSAGE_IDS+else-r-ne255, else-r-ge-MESSAGE_IDS}
 
 -- a priority is within its bounds: its two tests, and what the rest says
 in_range : (p : ℕ) {b rest : Bool} → (0 < p) × (p ≤ priority_count) → b ≡ rest → b ≡ (ltb 0 p && (leb p priority_count && rest))
@@ -21,6 +20,11 @@ in_range p h e = goes (lt-ltb 0 p h.0) (goes (le-leb p priority_count h.1) e)
 out_of_range : (p : ℕ) (rest : Bool) → (0 < p → priority_count < p) → false ≡ (ltb 0 p && (leb p priority_count && rest))
 out_of_range p rest h =
     cases (ltb 0 p) (λ e. goes e (stops _ (lt-leb p priority_count (h (ltb-true 0 p e))))) (λ e. stops _ e)
+
+-- a message's id, or 255
+reply_in : (n : ℕ) → (message_count ≤ n → n ≡ 255) → (ltb n message_count || eqb n 255) ≡ true
+reply_in n h =
+    cases (ltb n message_count) (λ e. rw e) (λ e. rw (eq-eqb n 255 (h (ltb-false n message_count e)), or-true))
 
 module _ (waited untrue flags : ℕ) (r : Thread) where
   abbrev kept : Bool
@@ -68,9 +72,5 @@ returns-then-r-ne255 c =
 -- where the arms meet, the reply is as it should be
 pub returns : goal.returns
 returns c =
-    rest _ _ _ _ (omega arith, omega arith) (omega arith, omega arith)
-    (elim c.if-r-ge-MESSAGE_IDS.branch [
-      | then-r-ge-MESSAGE_IDS+else-r-ne255 w ↦ rw (eq-eqb _ _ w.if-r-ne255.false, or-true)
-      | else-r-ge-MESSAGE_IDS w ↦ rw (lt-ltb _ _ w.if-r-ge-MESSAGE_IDS.false)
-    ])
+    rest _ _ _ _ (omega arith, omega arith) (omega arith, omega arith) (reply_in c.args.r.reply (λ h. grind (arith)))
     c.condition_kept.ensures

@@ -12,7 +12,9 @@ use Rattle.spec_calls.specs.Kinds.{kind_of, names, id_named}
 use Rattle.spec_refusals.specs.declared.named.Named.{Named}
 use Rattle.spec_refusals.specs.Named.{waiter_by, value_of, named}
 use Rattle.code_calls.proofs.named.named_by.Goals as goal
-use Rattle.code_calls.proofs.named.named_by.Goals.{After-names, After-names-2, After-names-3, After-names-4, Joined-kind-eq-A, Joined-names, Joined-names-2, Joined-names-3, then-names, else-names, then-names-2, else-names-2, then-kind-eq-A, else-kind-eq-A, then-names-3, else-names-3}
+use Rattle.code_calls.proofs.named.named_by.Goals.{After-names, After-names-2, After-names-3, After-names-4, Joined-kind-eq-A, Joined-names}
+use Rattle.code_calls.proofs.named.named_by.Goals.{Joined-names-2, Joined-names-3, then-names, else-names, then-names-2, else-names-2}
+use Rattle.code_calls.proofs.named.named_by.Goals.{then-kind-eq-A, else-kind-eq-A, then-names-3, else-names-3}
 
 -- what stands there after a class: these, who waits and what is found
 abbrev stage : Kernel → Call → Bool → Semaphore → Bool → Message → Named
@@ -107,8 +109,12 @@ of_flag c =
 
 pub returns-then-names-4 : goal.returns-then-names-4
 unfolding named
-returns-then-names-4 c = rw (sym (of_flag (goal.at.returns-then-names-4 c).After-names-4) ∙ c.if-names-4.true, after_messages (goal.at.returns-then-names-4 c).Joined-names-3, c.is_flag.ensures)
+returns-then-names-4 c =
+    let here = goal.at.returns-then-names-4 c in
+    rw (sym (of_flag here.After-names-4) ∙ c.if-names-4.true, after_messages here.Joined-names-3, c.is_flag.ensures)
 
 pub returns-else-names-4 : goal.returns-else-names-4
 unfolding named
-returns-else-names-4 c = rw (sym (of_flag (goal.at.returns-else-names-4 c).After-names-4) ∙ c.if-names-4.false, after_messages (goal.at.returns-else-names-4 c).Joined-names-3)
+returns-else-names-4 c =
+    let here = goal.at.returns-else-names-4 c in
+    rw (sym (of_flag here.After-names-4) ∙ c.if-names-4.false, after_messages here.Joined-names-3)

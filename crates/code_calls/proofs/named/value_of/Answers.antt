@@ -8,7 +8,8 @@ use Rattle.spec_calls.specs.declared.kinds.Kind.{Kind}
 use Rattle.spec_calls.specs.Kinds.{kind_of}
 use Rattle.spec_refusals.specs.Named.{value_of}
 use Rattle.code_calls.proofs.named.value_of.Goals as goal
-use Rattle.code_calls.proofs.named.value_of.Goals.{After-kind_of-kind, Else-kind-eq-NEW, Else-kind-eq-NEW-2, Else-kind-eq-NEW-3, Else-kind-eq-TAKEN}
+use Rattle.code_calls.proofs.named.value_of.Goals.{After-kind_of-kind, Else-kind-eq-NEW, Else-kind-eq-NEW-2, Else-kind-eq-NEW-3}
+use Rattle.code_calls.proofs.named.value_of.Goals.{Else-kind-eq-TAKEN}
 
 -- ---- the row's words, and what they aren't
 of_thread : (c : After-kind_of-kind) → c.kind_of-kind.result.thread ≡ (kind_of c.args.c).thread
@@ -38,19 +39,37 @@ no_taken c = ne_eqb _ 6 (λ z. c.if-kind-eq-TAKEN.false (of_message c.before.bef
 
 pub returns-then-kind-eq-NEW : goal.returns-then-kind-eq-NEW
 unfolding value_of
-returns-then-kind-eq-NEW c = rw (sym (of_thread (goal.at.returns-then-kind-eq-NEW c).After-kind_of-kind) ∙ c.if-kind-eq-NEW.true, c.free_thread.ensures)
+returns-then-kind-eq-NEW c =
+    let here = goal.at.returns-then-kind-eq-NEW c in
+    rw (sym (of_thread here.After-kind_of-kind) ∙ c.if-kind-eq-NEW.true, c.free_thread.ensures)
 
 pub returns-then-kind-eq-NEW-2 : goal.returns-then-kind-eq-NEW-2
 unfolding value_of
-returns-then-kind-eq-NEW-2 c = rw (no_thread (goal.at.returns-then-kind-eq-NEW-2 c).Else-kind-eq-NEW, sym (of_semaphore (goal.at.returns-then-kind-eq-NEW-2 c).After-kind_of-kind) ∙ c.if-kind-eq-NEW-2.true, c.free_semaphore.ensures)
+returns-then-kind-eq-NEW-2 c =
+    let here = goal.at.returns-then-kind-eq-NEW-2 c in
+    rw (no_thread here.Else-kind-eq-NEW, sym (of_semaphore here.After-kind_of-kind) ∙ c.if-kind-eq-NEW-2.true, c.free_semaphore.ensures)
 
 pub returns-then-kind-eq-NEW-3 : goal.returns-then-kind-eq-NEW-3
 unfolding value_of
-returns-then-kind-eq-NEW-3 c = rw (no_thread (goal.at.returns-then-kind-eq-NEW-3 c).Else-kind-eq-NEW, no_semaphore (goal.at.returns-then-kind-eq-NEW-3 c).Else-kind-eq-NEW-2, sym (of_message (goal.at.returns-then-kind-eq-NEW-3 c).After-kind_of-kind) ∙ c.if-kind-eq-NEW-3.true, c.free_message.ensures)
+returns-then-kind-eq-NEW-3 c =
+    let here = goal.at.returns-then-kind-eq-NEW-3 c in
+    rw (
+      no_thread here.Else-kind-eq-NEW,
+      no_semaphore here.Else-kind-eq-NEW-2,
+      sym (of_message here.After-kind_of-kind) ∙ c.if-kind-eq-NEW-3.true,
+      c.free_message.ensures,
+    )
 
 pub returns-then-kind-eq-TAKEN : goal.returns-then-kind-eq-TAKEN
 unfolding value_of
-returns-then-kind-eq-TAKEN c = rw (no_thread (goal.at.returns-then-kind-eq-TAKEN c).Else-kind-eq-NEW, no_semaphore (goal.at.returns-then-kind-eq-TAKEN c).Else-kind-eq-NEW-2, sym (of_message (goal.at.returns-then-kind-eq-TAKEN c).After-kind_of-kind) ∙ c.if-kind-eq-TAKEN.true) c.next_message.ensures
+returns-then-kind-eq-TAKEN c =
+    let here = goal.at.returns-then-kind-eq-TAKEN c in
+    rw (
+      no_thread here.Else-kind-eq-NEW,
+      no_semaphore here.Else-kind-eq-NEW-2,
+      sym (of_message here.After-kind_of-kind) ∙ c.if-kind-eq-TAKEN.true,
+    )
+    c.next_message.ensures
 
 -- none of these classes has it: the flags are left
 flags_left : (c : Else-kind-eq-TAKEN)
@@ -58,13 +77,22 @@ flags_left : (c : Else-kind-eq-TAKEN)
     value_of a.k a.c ≡ cond (eqb (kind_of a.c).flag 5) (free_flag a.k) 255
 unfolding value_of
 flags_left c =
-    rw (no_thread c.before.before.before.before.before.before, no_semaphore c.before.before.before.before, no_message c.before.before, no_taken c)
+    rw (
+      no_thread c.before.before.before.before.before.before,
+      no_semaphore c.before.before.before.before,
+      no_message c.before.before,
+      no_taken c,
+    )
 
 abbrev row_at : Else-kind-eq-TAKEN → After-kind_of-kind
 row_at c = c.before.before.before.before.before.before.before.before
 
 pub returns-then-kind-eq-NEW-4 : goal.returns-then-kind-eq-NEW-4
-returns-then-kind-eq-NEW-4 c = rw (flags_left (goal.at.returns-then-kind-eq-NEW-4 c).Else-kind-eq-TAKEN, sym (of_flag (row_at (goal.at.returns-then-kind-eq-NEW-4 c).Else-kind-eq-TAKEN)) ∙ c.if-kind-eq-NEW-4.true, c.free_flag.ensures)
+returns-then-kind-eq-NEW-4 c =
+    let here = goal.at.returns-then-kind-eq-NEW-4 c in
+    rw (flags_left here.Else-kind-eq-TAKEN, sym (of_flag (row_at here.Else-kind-eq-TAKEN)) ∙ c.if-kind-eq-NEW-4.true, c.free_flag.ensures)
 
 pub returns : goal.returns
-returns c = rw (flags_left (goal.at.returns c).Else-kind-eq-TAKEN, ne_eqb _ 5 (λ z. c.if-kind-eq-NEW-4.false (of_flag (row_at (goal.at.returns c).Else-kind-eq-TAKEN) ∙ z)))
+returns c =
+    let here = goal.at.returns c in
+    rw (flags_left here.Else-kind-eq-TAKEN, ne_eqb _ 5 (λ z. c.if-kind-eq-NEW-4.false (of_flag (row_at here.Else-kind-eq-TAKEN) ∙ z)))

@@ -13,7 +13,9 @@ of_thread c = ap (λ (x : Kind). x.thread) c.kind_of-kind.ensures
 
 pub returns-then-kind-eq-WAITER : goal.returns-then-kind-eq-WAITER
 unfolding waiter_by first_at_home
-returns-then-kind-eq-WAITER c = rw (sym (of_thread (goal.at.returns-then-kind-eq-WAITER c).After-kind_of-kind) ∙ c.if-kind-eq-WAITER.true) (rw c.home_by.ensures at c.first_at_home.ensures)
+returns-then-kind-eq-WAITER c =
+    let here = goal.at.returns-then-kind-eq-WAITER c in
+    rw (sym (of_thread here.After-kind_of-kind) ∙ c.if-kind-eq-WAITER.true) (rw c.home_by.ensures at c.first_at_home.ensures)
 
 pub returns : goal.returns
 unfolding waiter_by

@@ -42,4 +42,5 @@ pub returns : goal.returns
 returns c =
     let l = c.loop-m in
     let e : l.m ≡ message_count = omega arith in
-    record { full = l.invariant.1; kept = sweep_ends l.invariant.3 (omega arith); queued = rw e at l.invariant.4; streams = rw e at l.invariant.5 }
+    record
+    { full = l.invariant.1; kept = sweep_ends l.invariant.3 (omega arith); queued = rw e at l.invariant.4; streams = rw e at l.invariant.5 }

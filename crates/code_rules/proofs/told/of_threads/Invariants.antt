@@ -21,8 +21,8 @@ invariant-loop-t l =
     (length l.threads ≡ thread_count)
     × (l.t ≤ thread_count)
     × ((semaphores : List Semaphore) (events : List Event) (bits : ℕ) → Objects l.waited l.untrue semaphores events bits
-    → Sweep (every_from (λ _ r. thread_kept semaphores events bits l.flags r) 0 l.threads) l.kept (thread_kept semaphores events bits l.flags)
-    l.threads l.t)
+    → Sweep (every_from (λ _ r. thread_kept semaphores events bits l.flags r) 0 l.threads) l.kept
+    (thread_kept semaphores events bits l.flags) l.threads l.t)
     × Tells l.homes l.t (λ x. has_home (get_or l.threads x no_thread))
     × Tells l.ticking l.t (λ x. is_ticking (get_or l.threads x no_thread))
     × Keys l.ranks l.t (λ x. rank_of (get_or l.threads x no_thread))
