@@ -51,6 +51,7 @@ pub fn events_before(new: [Event; EVENTS], s: &[u8]) -> [Event; EVENTS]
 }
 
 // Bit a the other way, where the section says so.
+#[tactic(auto, unfolding(spec_notes::specs::Back::bits_before))]
 pub fn bits_before(c: Call, word: u32, s: &[u8]) -> u32
     ensures { result ≡ bits_before c word s.now }
 {

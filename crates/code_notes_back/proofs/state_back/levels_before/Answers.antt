@@ -18,7 +18,7 @@ unfolding levels_before
 returns c =
     let a = c.args in
     let s : List ℕ = a.s.now in
-    let b : Bytes s = λ i. omega (arith, c.shared_slice_known-1.given i) in
+    let b : Bytes s = λ i. omega (arith, c.type_inv.s i) in
     let e : c.row_at.result.fields
     ≡ row_from scheduler_widths (get_or s 0 0) (predicted_levels a.c a.unscheduled a.critical a.runner) (drop 1 s) =
     rw (c.row_at.ensures, c.predicted-told.ensures, c.byte_at-flags.ensures) (rw cut_scheduler) in

@@ -16,7 +16,7 @@ pub returns : goal.returns
 returns c =
     let a = c.args in
     let s : List ℕ = a.e.now in
-    let b : Bytes s = λ i. omega (arith, c.shared_slice_known-1.given i) in
+    let b : Bytes s = λ i. omega (arith, c.type_inv.e i) in
     let told = predicted_message a.c a.runner a.r in
     let f =
     message_fits a.c a.runner a.r (search rules) (search rules) (search rules) (search rules) (search rules) (search rules)

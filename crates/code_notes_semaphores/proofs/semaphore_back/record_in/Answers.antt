@@ -13,7 +13,7 @@ pub returns : goal.returns
 returns c =
     let a = c.args in
     let s : List ℕ = a.e.now in
-    let b : Bytes s = λ i. omega (arith, c.shared_slice_known-1.given i) in
+    let b : Bytes s = λ i. omega (arith, c.type_inv.e i) in
     let f = semaphore_fits a.c a.r (search rules) (search rules) (search rules) (search rules) in
     c.from_row.ensures
     ∙ ap semaphore_from

@@ -14,7 +14,7 @@ returns c =
     let a = c.args in
     let s = a.e.now in
     let o = c.thread_at-after.type_inv.1.1.1 in
-    let h : Bytes s = λ i. omega (arith, c.shared_slice_known-1.given i) in
+    let h : Bytes s = λ i. omega (arith, c.type_inv.e i) in
     let what = data_typed c.thread_at-after.result.condition _ o.1.1.0 in
     let z : Typed c.thread_at-after.result =
     (omega (arith, o.0), omega (arith, o.1.0), what, omega (arith, o.1.1.1.0), omega (arith, o.1.1.1.1.1.0)) in
