@@ -1,6 +1,8 @@
 // The public face, and all that a caller depends on: a call on any state with a log, append, and undo; the same on a stored image, and the
 // image written and read; and for whoever runs many calls or undos from a state that is known to keep its rules, both without the test,
 // the fresh state, and when two states are the same.
+#![tactic(auto)]
+
 pub mod images;
 pub mod logs;
 pub mod undos;
