@@ -1,7 +1,6 @@
 -- `code_images_calls::called_on` meets its contract: there is no image, or the call is done on its state.
 use mathlib.Core.Path.{◌∙◌}
 use native.Mathlib.Omega.{arith}
-use borrow.Author.Rules.{rules}
 use Rattle.spec_notes.specs.Within.{AreBytes}
 use Rattle.code_images_calls.proofs.Found.{not_read, was_read, call_damaged, call_found}
 use Rattle.code_images_calls.proofs.called_on.Goals as goal

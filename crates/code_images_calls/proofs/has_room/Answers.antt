@@ -3,7 +3,6 @@ use mathlib.Core.Path.{sym}
 use native.Mathlib.Omega.{arith}
 use lib.ListN.{length}
 use borrow.Author.Tests.{lt-leb}
-use borrow.Author.Rules.{rules}
 use Rattle.code_images_calls.proofs.OnStates.{leb_behind}
 use Rattle.code_images_calls.proofs.has_room.Goals as goal
 

@@ -1,7 +1,6 @@
 -- `code_images_calls::undo_on` meets its contract: there is no image, or the undo is done on its state.
 use mathlib.Core.Path.{◌∙◌}
 use native.Mathlib.Omega.{arith}
-use borrow.Author.Rules.{rules}
 use Rattle.spec_notes.specs.Within.{AreBytes}
 use Rattle.code_images_calls.proofs.Found.{not_read, was_read, undo_damaged, undo_found}
 use Rattle.code_images_calls.proofs.undo_on.Goals as goal

@@ -1,6 +1,5 @@
 -- `code_images_calls::undo_on_state` meets its contract: each way out is what is kept of the undo's result.
 use mathlib.Core.Path.{sym, ap, ◌∙◌}
-use borrow.Author.Rules.{rules}
 use Rattle.spec_images.specs.OnImages.{stored}
 use Rattle.code_images.proofs.ImageWritten.{fits_none, fits_some}
 use Rattle.code_images_calls.proofs.Found.{kept_refused, kept_short, kept_new}
