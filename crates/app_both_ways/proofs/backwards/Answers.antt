@@ -6,4 +6,4 @@ pub loop-init : goal.loop-init
 loop-init g c = rules_go_back c.undo_kept-l.ensures c.requires
 
 pub loop-preserved : goal.loop-preserved
-loop-preserved g c = rules_go_back c.undo_kept-l-2.ensures c.loop.invariant
+loop-preserved g c = rules_go_back c.undo_kept-l-in-loop.ensures c.loop.invariant

@@ -1,4 +1,5 @@
 -- `try_broken::through`: the ids are gone through.
+use Rattle.base_queue.specs.Queues.{capacity}
 use Rattle.std.proofs.Common.{◌-◌}
 use Rattle.try_broken.proofs.through.Given as goal
 
