@@ -26,6 +26,19 @@ pub fn empty() -> Queue
     }
 }
 
+impl Queue {
+    // What it holds, first to last.
+    pub fn members(&self) -> &[u8]
+        ensures { result.now ≡ items self.now }
+    {
+        if self.n < LENGTHS {
+            &self.at[..self.n as usize]
+        } else {
+            &self.at
+        }
+    }
+}
+
 // How many places are taken.
 pub fn size(q: Queue) -> usize
     ensures { result ≡ length (items q) }
