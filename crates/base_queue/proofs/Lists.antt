@@ -1,17 +1,22 @@
 -- Laws on lists, for the proofs here and in the crates above: a loop's next turn and its end, what a test of every member
 -- means, and a list with one member more or one fewer.
-use Prim.Native.Nat.{ℕ, zero, suc, ◌+◌, ◌-◌, ◌≤◌, ◌<◌, min}
+use Prim.Native.Nat.{ℕ, zero, suc, ◌+◌, ◌≤◌, ◌<◌, min}
 use mathlib.Core.Path.{◌≡◌, refl, sym, ap, ◌∙◌}
 use mathlib.Core.List.{List, [], ◌∷◌, ◌++◌}
-use mathlib.Core.Bool.{Bool, true, false, cond, ◌&&◌, false≢true}
+use mathlib.Core.Bool.{Bool, true, false, not, cond, ◌&&◌, false≢true}
 use native.Mathlib.Nat.{add-zero, add-suc, suc-add, zero-min, min-zero, suc-min-suc}
-use native.Mathlib.Numerals.{add-one}
+use native.Mathlib.Numerals.{add-one, one-add}
 use native.Mathlib.Omega.{arith}
 use lib.Dec.{eqb, ltb, leb-suc-suc}
 use lib.ListN.{length, take, drop, get_or, replicate}
-use lib.ListN.{length-append, length-take, length-drop, length-replicate, get_or-replicate, drop_of_length-le}
-use lib.Seq.{take-suc, drop-cons, get_or-take, take_at, get_or_at, length-take-le, ext_get_or}
-use borrow.Author.Tests.{eq-eqb, ne_eqb, lt-ltb, eqb-true}
+use lib.ListN.{length-take, length-replicate, get_or-replicate, drop_of_length-le}
+use lib.Seq.{take-suc, drop-cons, get_or-take, ext_get_or}
+use borrow.Author.Tests.{eq-eqb, lt-ltb, ltb-false, eqb-true}
+use Rattle.std.specs.Prelude.{unwrap_or, position}
+use Rattle.std.specs.List.{position_or_len, list_all}
+use Rattle.std.proofs.lemmas.List.Sums.{prefix_len-le-length}
+use Rattle.std.proofs.lemmas.List.Recursion.{is_position_or_len}
+use Rattle.base_bits.proofs.Digits.{either}
 use Rattle.base_queue.specs.Lists.{keep, every_from, count, place_of, has, with_at, all_zero}
 
 pub and_both : (a b : Bool) → (a && b) ≡ true → (a ≡ true) × (b ≡ true)
@@ -24,9 +29,6 @@ module _ {A : Type 0} where
   take_size zero l = refl
   take_size (suc n) [] = refl
   take_size (suc n) (x ∷ l) = ap {B = List A} (λ r. x ∷ r) (take_size n l)
-
-  pub take_front : (i : ℕ) (l m : List A) → i ≤ length l → take i (take i l ++ m) ≡ take i l
-  take_front i l m h = take_at (take i l) m i (length-take-le i l h)
 
   -- what a walk over the first n has before it at k: the member there and the rest; at the end, nothing
   pub rest_next : (d : A) (l : List A) (n k : ℕ) → k < n → k < length l → drop k (take n l) ≡ get_or l k d ∷ drop (k + 1) (take n l)
@@ -70,6 +72,19 @@ module _ {A : Type 0} where
   every_anywhere f j k [] = refl
   every_anywhere f j k (x ∷ l) = ap (λ (r : Bool). f x && r) (every_anywhere f (suc j) (suc k) l)
 
+-- the library's test of every member
+pub zeros_all : (l : List ℕ) → all_zero l ≡ list_all (λ x. eqb x 0) l
+zeros_all [] = refl
+zeros_all (x ∷ l) = ap (λ r. eqb x 0 && r) (every_anywhere (λ x. eqb x 0) 1 0 l ∙ zeros_all l)
+
+-- a search that ends at the length where it finds nothing
+pub found_or_len : {A : Type 0} (p : A → Bool) (l : List A) → unwrap_or (position p l) (length l) ≡ position_or_len p l
+found_or_len p l =
+    let n : ℕ = position_or_len p l in
+    either (ltb n (length l))
+    (λ e. rw e refl)
+    (λ e. rw e (omega (arith, prefix_len-le-length (λ x. not (p x)) l, ltb-false n (length l) e)))
+
 module _ (x : ℕ) where
   pub count_append : (l m : List ℕ) → count x (l ++ m) ≡ count x l + count x m
   count_append [] m = omega arith
@@ -80,16 +95,12 @@ module _ (x : ℕ) where
       go true e = omega arith
       go false e = e
 
-  -- the search among the first n: found at k, not at k, and at the end
-  module _ (l : List ℕ) (n k : ℕ) where
-    pub place_here : k < n → k < length l → get_or l k 0 ≡ x → place_of x (drop k (take n l)) ≡ 0
-    place_here h e p = rw (rest_next 0 l n k h e, eq-eqb _ _ p)
-
-    pub place_next : k < n → k < length l → (get_or l k 0 ≡ x → ⊥) → place_of x (drop k (take n l)) ≡ 1 + place_of x (drop (k + 1) (take n l))
-    place_next h e p = rw (rest_next 0 l n k h e, ne_eqb _ _ p) (omega arith)
-
-    pub place_end : min n (length l) ≤ k → place_of x (drop k (take n l)) ≡ 0
-    place_end h = rw (rest_end l n k h)
+  -- the search that the code makes
+  pub place_found : (l : List ℕ) → unwrap_or (position (λ y. eqb y x) l) (length l) ≡ place_of x l
+  place_found l =
+      let p : ℕ → Bool = λ y. eqb y x in
+      let e : place_of x l ≡ position_or_len p l = is_position_or_len (place_of x) p refl (λ y ys. rw (one-add) refl) l in
+      rw e (found_or_len p l)
 
   -- who stands in a list has a place there
   pub has_place : (l : List ℕ) → ltb (place_of x l) (length l) ≡ has x l
@@ -101,24 +112,11 @@ module _ (x : ℕ) where
       go true e = lt-ltb 0 (suc (length l)) (omega arith) ∙ sym (lt-ltb 0 (suc (count x l)) (omega arith))
       go false e = leb-suc-suc (suc (place_of x l)) (length l) ∙ e
 
-  -- x is put in: itself, and those after it
-  pub with_at_here : (i : ℕ) (l : List ℕ) → i ≤ length l → get_or (with_at i x l) i 0 ≡ x
-  with_at_here i l h = get_or_at (take i l) x (drop i l) 0 i (length-take-le i l h)
-
-  pub with_at_after : (i k : ℕ) (l : List ℕ) → i ≤ k → get_or (with_at i x l) (suc k) 0 ≡ get_or l k 0
-  with_at_after zero k l h = refl
-  with_at_after (suc i) k [] h = refl
-  with_at_after (suc i) zero (y ∷ l) h = absurd (omega arith)
-  with_at_after (suc i) (suc k) (y ∷ l) h = with_at_after i k l (omega arith)
-
   -- past the end is at the end
   pub with_at_min : (i : ℕ) (l : List ℕ) → with_at i x l ≡ with_at (min i (length l)) x l
   with_at_min zero l = rw zero-min
   with_at_min (suc i) [] = rw min-zero
   with_at_min (suc i) (y ∷ l) = rw suc-min-suc (ap {B = List ℕ} (λ r. y ∷ r) (with_at_min i l))
-
-  pub length_with_at : (i : ℕ) (l : List ℕ) → length (with_at i x l) ≡ length l + 1
-  length_with_at i l = simp (length-append, length-take, length-drop) (omega arith)
 
 pub zeros_means : (l : List ℕ) → all_zero l ≡ true → l ≡ replicate (length l) 0
 zeros_means l e =

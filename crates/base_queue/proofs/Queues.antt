@@ -1,15 +1,16 @@
 -- Laws on queues: a loop over the places of one, a store that a loop fills, and the queues that hold a list and nothing else.
-use Prim.Native.Nat.{ℕ, suc, ◌+◌, ◌-◌, ◌≤◌, ◌<◌}
+use Prim.Native.Nat.{ℕ, suc, ◌-◌, ◌≤◌, ◌<◌}
 use mathlib.Core.Path.{◌≡◌, sym, ap, ap₂, ◌∙◌}
 use mathlib.Core.List.{List, [], ◌∷◌, ◌++◌, append-nil}
 use mathlib.Core.Bool.{true}
-use native.Mathlib.Numerals.{add-one}
 use native.Mathlib.Omega.{arith}
-use lib.ListN.{length, take, drop, get_or, set, replicate, length-append, length-take, length-drop, take-append-drop}
-use lib.Seq.{append_snoc, set_at, take-suc, length-take-le, take-append_seam, drop-append_seam}
-use borrow.Author.Tests.{leb-true, le-leb}
+use lib.ListN.{length, take, drop, set, replicate, length-append, length-take, length-drop, take-append-drop}
+use lib.Seq.{append_snoc, set_at, length-take-le, take-append_seam, drop-append_seam}
+use borrow.Author.Tests.{leb-true, le-leb, lt-ltb}
+use borrow.Rule.Slice.PartMut.{put_mid}
+use Rattle.std.proofs.lemmas.List.{append_assoc, drop-replicate}
 use Rattle.base_queue.specs.declared.Queue.{Queue}
-use Rattle.base_queue.specs.Queues.{capacity, items, pad, pack, is_tidy, Tidy}
+use Rattle.base_queue.specs.Queues.{capacity, items, pad, pack, pushed, is_tidy, Tidy}
 use Rattle.base_queue.proofs.Lists.{take_size, and_both, zeros_means, zeros_hold}
 
 -- two queues are equal by their fields
@@ -37,18 +38,34 @@ pad_push d k v e h =
     let y : capacity - length (d ++ v ∷ []) ≡ capacity - 1 - k = rw length-append (omega arith) in
     rw (z, y, set_at d 0 _ v k e, append_snoc)
 
-pub pad_next : (t : List ℕ) (k v : ℕ) → k < length t → length t ≤ capacity → v ≡ get_or t k 0
-    → set (pad (take k t)) k v ≡ pad (take (k + 1) t)
-pad_next t k v h e p = rw (add-one, take-suc t k 0 h, ← p) (pad_push (take k t) k v (length-take-le k t (omega arith)) (omega arith))
-
 pub pad_full : (l : List ℕ) → length l ≡ capacity → pad l ≡ l
 pad_full l e = rw e (append-nil l)
+
+-- a part of the store is filled at once
+pub pad_extend : (l m : List ℕ) (k : ℕ) → k ≡ length m → put_mid (length l) k (pad l) m ≡ pad (l ++ m)
+pad_extend l m k e =
+    let z : List ℕ = replicate (capacity - length l) 0 in
+    let n : capacity - length l - k ≡ capacity - length (l ++ m) = rw (length-append, e) (omega arith) in
+    rw (take-append_seam l z, drop-append_seam l z, drop-replicate {X = ℕ} k (capacity - length l) 0, n) (sym (append_assoc l m _))
 
 pub items_pack : (l : List ℕ) → items (pack l) ≡ l
 items_pack l = take-append_seam l _
 
 pub tidy_pack : (l : List ℕ) → Tidy (pack l)
 tidy_pack l = ap pack (items_pack l)
+
+-- what a push and an extension give, of a queue that holds l
+module _ (l : List ℕ) (q r : Queue) (e : q ≡ pack l) where
+  pub pushed_on : (x : ℕ) → length l < capacity → (Tidy q → r ≡ pack (pushed x (items q))) → r ≡ pack (l ++ x ∷ [])
+  pushed_on x h f =
+      let g = rw e at f in
+      rw (items_pack l, lt-ltb (length l) capacity h) at (g (tidy_pack l))
+
+  pub extended_by : (m : List ℕ) → length (l ++ m) ≤ capacity
+      → (Tidy q → length (items q ++ m) ≤ capacity → r ≡ pack (items q ++ m)) → r ≡ pack (l ++ m)
+  extended_by m h f =
+      let g = rw e at f in
+      rw (items_pack l) at (g (tidy_pack l) (rw (items_pack l) h))
 
 pub size_tidy : (q : Queue) → Tidy q → q.n ≡ length (items q)
 size_tidy q t = ap (λ (p : Queue). p.n) (sym t)

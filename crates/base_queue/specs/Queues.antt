@@ -1,5 +1,5 @@
 -- A queue of so many places, seen through: what it holds, and the queue that holds a list.
-use Rattle.std.specs.Prelude.{ℕ, ◌-◌, ◌≡◌, List, ◌++◌, Bool, cond, ◌&&◌, ltb, leb, length, take, drop, replicate}
+use Rattle.std.specs.Prelude.{ℕ, ◌-◌, ◌≡◌, List, [], ◌∷◌, ◌++◌, Bool, cond, ◌&&◌, ltb, leb, length, take, drop, replicate}
 use Rattle.base_queue.specs.Lists.{with_at, all_zero}
 use Rattle.base_queue.specs.declared.Queue.{Queue}
 
@@ -19,9 +19,9 @@ pad l = l ++ replicate (capacity - length l) 0
 abbrev pub pack : List ℕ → Queue
 pack l = record { n = length l; at = pad l }
 
--- the first k places of a store, and zeros after them
-abbrev pub front : ℕ → List ℕ → List ℕ
-front k at = pad (take k at)
+-- l with x behind its last, or as it was where all places are taken
+abbrev pub pushed : ℕ → List ℕ → List ℕ
+pushed x l = cond (ltb (length l) capacity) (l ++ x ∷ []) l
 
 -- l with x at place i, or as it was where all places are taken
 unfoldable pub room_for : ℕ → ℕ → List ℕ → List ℕ

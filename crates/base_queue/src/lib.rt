@@ -1,9 +1,10 @@
 // Queues with a length, and lists and tables of places with their laws. It knows nothing of kernels.
 #![tactic(auto)]
 
-ghost use Rattle.std.specs.Prelude.{◌≡◌, [], length};
+ghost use Rattle.std.specs.Prelude.{◌≡◌, ◌≤◌, ◌++◌, [], length, eqb, position};
+ghost use Rattle.std.specs.List.{list_all};
 ghost use Rattle.base_queue.specs.Lists.{without, place_of, first_of};
-ghost use Rattle.base_queue.specs.Queues.{items, pack, front, room_for, is_tidy};
+ghost use Rattle.base_queue.specs.Queues.{capacity, items, pack, pushed, room_for, is_tidy, Tidy};
 
 // How many places a queue has.
 pub const CAPACITY: usize = 64;
@@ -37,114 +38,101 @@ impl Queue {
             &self.at
         }
     }
+
+    // The place of the first x, if it has one.
+    pub fn position(&self, x: u8) -> Option<usize>
+        ensures { result ≡ position (λ y. eqb y x) (items self.now) }
+    {
+        self.members().iter().position(|y| *y == x)
+    }
+
+    // With x behind the last, where there is room.
+    pub fn push(&mut self, x: u8)
+        ensures { Tidy self.old → self.new ≡ pack (pushed x (items self.old)) }
+    {
+        if self.n < LENGTHS {
+            self.at[self.n as usize] = x;
+            self.n += 1;
+        }
+    }
+
+    // With all of these behind the last, where there is room.
+    fn extend(&mut self, more: &[u8])
+        ensures { Tidy self.old → length (items self.old ++ more.now) ≤ capacity → self.new ≡ pack (items self.old ++ more.now) }
+    {
+        let n = self.n as usize;
+        if n <= CAPACITY && more.len() <= CAPACITY - n {
+            self.at[n..n + more.len()].copy_from_slice(more);
+            self.n += more.len() as u8;
+        }
+    }
 }
 
 // How many places are taken.
 pub fn size(q: Queue) -> usize
     ensures { result ≡ length (items q) }
 {
-    if q.n < LENGTHS {
-        q.n as usize
-    } else {
-        CAPACITY
-    }
+    q.members().len()
 }
 
 // The first, or 255 for none.
 pub fn first(q: Queue) -> u8
     ensures { result ≡ first_of (items q) }
 {
-    if q.n == 0 { 255 } else { q.at[0] }
+    q.members().first().copied().unwrap_or(255)
 }
 
 // The place of the first x, or the number of places taken.
 pub fn place_of(q: Queue, x: u8) -> usize
     ensures { result ≡ place_of x (items q) }
 {
-    let at = q.at;
-    let n = size(q);
-    let mut i: usize = 0;
-    while i < n {
-        if at[i] == x {
-            return i;
-        }
-        i += 1;
-    }
-    n
+    q.position(x).unwrap_or(size(q))
 }
 
 // Without x.
 pub fn without(q: Queue, x: u8) -> Queue
     ensures { result ≡ pack (without x (items q)) }
 {
-    let at = q.at;
-    let n = size(q);
-    let mut a = [0u8; CAPACITY];
-    let mut k: usize = 0;
-    let mut i: usize = 0;
-    while i < n {
-        let y = at[i];
-        i += 1;
-        if y != x {
-            a[k] = y;
-            k += 1;
+    let mut rest = empty();
+    for y in q.members() {
+        if *y != x {
+            rest.push(*y);
         }
     }
-    Queue { n: k as u8, at: a }
-}
-
-// The first k places, and zeros after them.
-fn fronted(at: [u8; CAPACITY], k: usize) -> [u8; CAPACITY]
-    ensures { result ≡ front k at }
-{
-    let mut a = [0u8; CAPACITY];
-    let mut i: usize = 0;
-    while i < CAPACITY {
-        if k <= i {
-            return a;
-        }
-        a[i] = at[i];
-        i += 1;
-    }
-    a
+    rest
 }
 
 // With x at place i, before the member there; past the end, last. A full queue stays.
 pub fn with_at(q: Queue, i: usize, x: u8) -> Queue
     ensures { result ≡ pack (room_for i x (items q)) }
 {
-    let at = q.at;
-    let n = size(q);
-    if CAPACITY <= n {
-        return Queue { n: LENGTHS, at: at };
+    let members = q.members();
+    let n = members.len();
+    if n == CAPACITY {
+        return Queue {
+            n: LENGTHS,
+            at: q.at,
+        };
     }
-    let place = if i < n { i } else { n };
-    let mut a = fronted(at, place);
-    a[place] = x;
-    let mut k = place;
-    while k < n {
-        a[k + 1] = at[k];
-        k += 1;
-    }
-    Queue {
-        n: (n + 1) as u8,
-        at: a,
-    }
+    let place = i.min(n);
+    let mut next = empty();
+    next.extend(&members[..place]);
+    next.push(x);
+    next.extend(&members[place..]);
+    next
+}
+
+// Whether all of these are 0.
+fn all_zero(places: &[u8]) -> bool
+    ensures { result ≡ list_all (λ x. eqb x 0) places.now }
+{
+    places.iter().all(|x| *x == 0)
 }
 
 // Whether its length is within it and its unused store 0.
 pub fn is_tidy(q: Queue) -> bool
     ensures { result ≡ is_tidy q }
 {
-    let at = q.at;
-    if LENGTHS < q.n {
-        return false;
-    }
-    let mut all: u8 = 0;
-    let mut i = q.n as usize;
-    while i < CAPACITY {
-        all = all | at[i];
-        i += 1;
-    }
-    all == 0
+    let fits = q.n <= LENGTHS;
+    fits && all_zero(&q.at[q.n as usize..])
 }

@@ -1,37 +1,40 @@
--- `base_queue::without` meets its contract: a holds those of the i places passed that are not x, and k says how many they are.
-use Prim.Native.Nat.{ℕ, ◌-◌}
-use mathlib.Core.Path.{◌≡◌, refl, sym}
+-- `base_queue::without` meets its contract: the rest is what is kept of the members passed.
+use Prim.Native.Nat.{ℕ}
 use mathlib.Core.List.{List, append-nil}
 use native.Mathlib.Omega.{arith}
 use lib.ListN.{take, length-append}
+use lib.Seq.{take_all}
 use borrow.Author.Rules.{rules}
 use borrow.Author.Tests.{eq-eqb, ne_eqb}
 use Rattle.base_queue.specs.Lists.{is_not, without}
 use Rattle.base_queue.proofs.Lists.{keep_next}
-use Rattle.base_queue.proofs.Queues.{walk_start, sized_items, pad_push, queue_eq}
+use Rattle.base_queue.proofs.Queues.{pushed_on, length_items}
 use Rattle.base_queue.proofs.without.Goals as goal
+use Rattle.base_queue.proofs.without.Goals.{then-y-x, else-y-x}
 
-pub loop-i-init : goal.loop-i-init
-loop-i-init c = (walk_start c.args.q _ c.size-n.ensures 0 (omega arith) (search rules), omega arith, refl, refl)
+pub loop-y-init : goal.loop-y-init
+loop-y-init c = (rw c.members-y-items.ensures (length_items c.args.q (search rules)), omega arith, c.empty-rest.ensures)
 
-pub loop-i-preserved-then-y-x : goal.loop-i-preserved-then-y-x
-loop-i-preserved-then-y-x c =
-    let a = c.args in
-    let l = c.loop-i in
-    let w : List ℕ = without a.x (take l.i a.q.at) in
-    let e = rw (ne_eqb _ _ c.if-y-x.true) at (keep_next (is_not a.x) 0 a.q.at l.i (omega arith)) in
-    (omega arith, omega arith, rw (e, length-append) (omega arith), rw (e, l.invariant.3) (pad_push w l.k _ (sym l.invariant.2) (omega arith)))
-
-pub loop-i-preserved : goal.loop-i-preserved
-loop-i-preserved c =
-    let a = c.args in
-    let l = c.loop-i in
-    let e = rw (eq-eqb _ _ c.if-y-x.false) at (keep_next (is_not a.x) 0 a.q.at l.i (omega arith)) in
-    (omega arith, omega arith, rw (e, append-nil) l.invariant.2, rw (e, append-nil) l.invariant.3)
+pub loop-y-preserved : goal.loop-y-preserved
+loop-y-preserved c =
+    let x : ℕ = c.args.x in
+    let l = c.loop-y in
+    let i = l.invariant in
+    let m : List ℕ = c.members-y-items.result.now in
+    let w : List ℕ = without x (take l.y-index m) in
+    let n = keep_next (is_not x) 0 m l.y-index (omega arith) in
+    elim c.if-y-x.branch [
+      | then-y-x b ↦
+          let e = rw (ne_eqb _ _ b.if-y-x.true) at n in
+          let p = pushed_on w _ _ i.2 _ (omega arith) b.push.ensures in
+          (i.0, rw (e, length-append) (omega arith), rw (b.rest-is, e) p)
+      | else-y-x b ↦
+          let e = rw (eq-eqb _ _ b.if-y-x.false, append-nil) at n in
+          (i.0, rw e (omega arith), rw (b.rest-is, e) i.2)
+    ]
 
 pub returns : goal.returns
 returns c =
-    let l = c.loop-i in
-    let e : l.i ≡ c.size-n.result = omega arith in
-    rw (sized_items c.args.q _ c.size-n.ensures, ← e)
-    (queue_eq l.invariant.2 l.invariant.3)
+    let l = c.loop-y in
+    let m : List ℕ = c.members-y-items.result.now in
+    rw (← c.members-y-items.ensures) (rw (take_all l.y-index m (omega arith)) at l.invariant.2)
