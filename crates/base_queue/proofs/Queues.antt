@@ -1,6 +1,6 @@
 -- Laws on queues: a loop over the places of one, a store that a loop fills, and the queues that hold a list and nothing else.
 use Prim.Native.Nat.{ℕ, suc, ◌-◌, ◌≤◌, ◌<◌}
-use mathlib.Core.Path.{◌≡◌, sym, ap, ap₂, ◌∙◌}
+use mathlib.Core.Path.{◌≡◌, refl, sym, ap, ap₂, ◌∙◌}
 use mathlib.Core.List.{List, [], ◌∷◌, ◌++◌, append-nil}
 use mathlib.Core.Bool.{true}
 use native.Mathlib.Omega.{arith}
@@ -10,7 +10,7 @@ use borrow.Author.Tests.{leb-true, le-leb, lt-ltb}
 use borrow.Rule.Slice.PartMut.{put_mid}
 use Rattle.std.proofs.lemmas.List.{append_assoc, drop-replicate}
 use Rattle.base_queue.specs.declared.Queue.{Queue}
-use Rattle.base_queue.specs.Queues.{capacity, items, pad, pack, pushed, is_tidy, Tidy}
+use Rattle.base_queue.specs.Queues.{capacity, items, pad, pack, with_last, is_tidy, Tidy}
 use Rattle.base_queue.proofs.Lists.{take_size, and_both, zeros_means, zeros_hold}
 
 -- two queues are equal by their fields
@@ -54,12 +54,17 @@ items_pack l = take-append_seam l _
 pub tidy_pack : (l : List ℕ) → Tidy (pack l)
 tidy_pack l = ap pack (items_pack l)
 
+pub push_pack : (l : List ℕ) (x : ℕ) → length l < capacity → with_last x (pack l) ≡ pack (l ++ x ∷ [])
+push_pack l x h =
+    rw (lt-ltb (length l) capacity h)
+    (queue_eq (rw length-append (omega arith)) (pad_push l (length l) x refl h))
+
 -- what a push and an extension give, of a queue that holds l
 module _ (l : List ℕ) (q r : Queue) (e : q ≡ pack l) where
-  pub pushed_on : (x : ℕ) → length l < capacity → (Tidy q → r ≡ pack (pushed x (items q))) → r ≡ pack (l ++ x ∷ [])
+  pub pushed_on : (x : ℕ) → length l < capacity → r ≡ with_last x q → r ≡ pack (l ++ x ∷ [])
   pushed_on x h f =
       let g = rw e at f in
-      rw (items_pack l, lt-ltb (length l) capacity h) at (g (tidy_pack l))
+      g ∙ push_pack l x h
 
   pub extended_by : (m : List ℕ) → length (l ++ m) ≤ capacity
       → (Tidy q → length (items q ++ m) ≤ capacity → r ≡ pack (items q ++ m)) → r ≡ pack (l ++ m)

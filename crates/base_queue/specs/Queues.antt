@@ -1,5 +1,5 @@
 -- A queue of so many places, seen through: what it holds, and the queue that holds a list.
-use Rattle.std.specs.Prelude.{ℕ, ◌-◌, ◌≡◌, List, [], ◌∷◌, ◌++◌, Bool, cond, ◌&&◌, ltb, leb, length, take, drop, replicate}
+use Rattle.std.specs.Prelude.{ℕ, ◌+◌, ◌-◌, ◌≡◌, List, ◌++◌, Bool, cond, ◌&&◌, ltb, leb, length, take, drop, set, replicate}
 use Rattle.base_queue.specs.Lists.{with_at, all_zero}
 use Rattle.base_queue.specs.declared.Queue.{Queue}
 
@@ -19,9 +19,9 @@ pad l = l ++ replicate (capacity - length l) 0
 abbrev pub pack : List ℕ → Queue
 pack l = record { n = length l; at = pad l }
 
--- l with x behind its last, or as it was where all places are taken
-abbrev pub pushed : ℕ → List ℕ → List ℕ
-pushed x l = cond (ltb (length l) capacity) (l ++ x ∷ []) l
+-- the queue with x behind its last, or as it was where all places are taken
+abbrev pub with_last : ℕ → Queue → Queue
+with_last x q = cond (ltb q.n capacity) (record { n = q.n + 1; at = set q.at q.n x }) q
 
 -- l with x at place i, or as it was where all places are taken
 unfoldable pub room_for : ℕ → ℕ → List ℕ → List ℕ

@@ -4,7 +4,7 @@
 ghost use Rattle.std.specs.Prelude.{◌≡◌, ◌≤◌, ◌++◌, [], length, eqb, position};
 ghost use Rattle.std.specs.List.{list_all};
 ghost use Rattle.base_queue.specs.Lists.{without, place_of, first_of};
-ghost use Rattle.base_queue.specs.Queues.{capacity, items, pack, pushed, room_for, is_tidy, Tidy};
+ghost use Rattle.base_queue.specs.Queues.{capacity, items, pack, with_last, room_for, is_tidy, Tidy};
 
 // How many places a queue has.
 pub const CAPACITY: usize = 64;
@@ -48,7 +48,7 @@ impl Queue {
 
     // With x behind the last, where there is room.
     pub fn push(&mut self, x: u8)
-        ensures { Tidy self.old → self.new ≡ pack (pushed x (items self.old)) }
+        ensures { self.new ≡ with_last x self.old }
     {
         if self.n < LENGTHS {
             self.at[self.n as usize] = x;
