@@ -19,7 +19,9 @@ use Rattle.spec_kernel.specs.Sizes.{thread_count, semaphore_count, event_count, 
 use Rattle.spec_moves.specs.declared.parts.Threads.{Threads}
 use Rattle.spec_moves.specs.declared.parts.Posts.{Posts}
 use Rattle.spec_calls.specs.declared.call.Call.{Call}
-use Rattle.spec_calls.specs.Kinds.{the_runner, the_waiter, the_new, the_taken, anybody, kind_of, names, id_named}
+use Rattle.spec_calls.specs.declared.kinds.Which.{Which}
+use Rattle.spec_calls.specs.declared.kinds.Which.TheVariants.{Runner, Waiter, New, Taken, Any}
+use Rattle.spec_calls.specs.Kinds.{is_which, kind_of, names, id_named}
 use Rattle.spec_notes.specs.Sections.{thread_entries, semaphore_entries, bit_noted, event_entries, message_entries}
 use Rattle.code_notes_spans.specs.Spans.{Span, span, alone, span_of, in_span, thread_span, semaphore_span, event_span, message_span}
 use Rattle.spec_notes.proofs.EntriesShort.{threads_run, semaphores_run, bit_short, events_run, messages_run}
@@ -66,14 +68,14 @@ alone_inside size x = go (ltb x size) refl
     go true e = record { fits = omega (arith, ltb-true x size e) }
     go false e = none size
 
-span_in : (size which : ℕ) (c : Call) (runner value waiter : ℕ) → Inside size (span_of size which c runner value waiter)
+span_in : (size : ℕ) (which : Which) (c : Call) (runner value waiter : ℕ) → Inside size (span_of size which c runner value waiter)
 unfolding span_of
 span_in size which c runner value waiter =
-    either (eqb which anybody) (all size)
+    either (is_which which Any) (all size)
     (either (names which) (alone_inside size (id_named which c))
-    (either (eqb which the_runner) (alone_inside size runner)
-    (either (eqb which the_waiter) (alone_inside size waiter)
-    (either (eqb which the_new) (alone_inside size value) (either (eqb which the_taken) (alone_inside size value) (none size))))))
+    (either (is_which which Runner) (alone_inside size runner)
+    (either (is_which which Waiter) (alone_inside size waiter)
+    (either (is_which which New) (alone_inside size value) (either (is_which which Taken) (alone_inside size value) (none size))))))
 
 thread_in_lem : (c : Call) (runner value waiter : ℕ) → Inside thread_count (thread_span c runner value waiter)
 unfolding thread_span

@@ -6,7 +6,8 @@ use borrow.Table.Steps.{cases}
 use Rattle.spec_kernel.specs.declared.records.Kernel.{Kernel}
 use Rattle.code_kernel_find.specs.AtHome.{first_at_home}
 use Rattle.spec_calls.specs.declared.call.Call.{Call}
-use Rattle.spec_calls.specs.Kinds.{the_waiter, kind_of}
+use Rattle.spec_calls.specs.declared.kinds.Which.TheVariants.{Waiter}
+use Rattle.spec_calls.specs.Kinds.{is_which, kind_of}
 use Rattle.spec_refusals.specs.declared.named.Named.{Named}
 use Rattle.spec_refusals.specs.Named.{waiter_by, named}
 use Rattle.code_notes_spans.specs.Spans.{span_of, thread_span, waiter_of}
@@ -16,4 +17,4 @@ pub waiter_found : (k : Kernel) (c : Call) (n : Named) (runner value : ℕ) → 
     → thread_span c runner value n.waiter ≡ thread_span c runner value (waiter_of k c)
 unfolding thread_span span_of named waiter_by first_at_home
 waiter_found k c n runner value e =
-    rw (ap (λ m. m.waiter) e) (cases (eqb (kind_of c).thread the_waiter) (λ h. rw h) (λ h. rw h))
+    rw (ap (λ m. m.waiter) e) (cases (is_which (kind_of c).thread Waiter) (λ h. rw h) (λ h. rw h))

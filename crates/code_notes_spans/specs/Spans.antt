@@ -7,7 +7,9 @@ use Rattle.spec_kernel.specs.Places.{home}
 use Rattle.code_kernel_find.specs.AtHome.{first_at_home}
 use Rattle.spec_calls.specs.declared.call.Call.{Call}
 use Rattle.spec_refusals.specs.Named.{class_by}
-use Rattle.spec_calls.specs.Kinds.{the_runner, the_waiter, the_new, the_taken, anybody, kind_of, names, id_named}
+use Rattle.spec_calls.specs.declared.kinds.Which.{Which}
+use Rattle.spec_calls.specs.declared.kinds.Which.TheVariants.{Any, New, Runner, Taken, Waiter}
+use Rattle.spec_calls.specs.Kinds.{is_which, kind_of, names, id_named}
 
 pub record Span : Type 0 where
   pub first : ℕ
@@ -22,13 +24,13 @@ alone size x = cond (ltb x size) (span x 1) (span 0 0)
 
 -- The ids of a class of this size that a call can touch, by its column of the row: all, one, or nobody. A new one and a message that
 -- is taken have the id that the call answers; `waiter` is the first that waits for semaphore or flag a.
-unfoldable pub span_of : ℕ → ℕ → Call → ℕ → ℕ → ℕ → Span
+unfoldable pub span_of : ℕ → Which → Call → ℕ → ℕ → ℕ → Span
 span_of size which c runner value waiter =
-    cond (eqb which anybody) (span 0 size)
+    cond (is_which which Any) (span 0 size)
     (cond (names which) (alone size (id_named which c))
-    (cond (eqb which the_runner) (alone size runner)
-    (cond (eqb which the_waiter) (alone size waiter)
-    (cond (eqb which the_new) (alone size value) (cond (eqb which the_taken) (alone size value) (span 0 0))))))
+    (cond (is_which which Runner) (alone size runner)
+    (cond (is_which which Waiter) (alone size waiter)
+    (cond (is_which which New) (alone size value) (cond (is_which which Taken) (alone size value) (span 0 0))))))
 
 unfoldable pub thread_span : Call → ℕ → ℕ → ℕ → Span
 thread_span c runner value waiter = span_of thread_count (kind_of c).thread c runner value waiter

@@ -1,68 +1,42 @@
-// What the row of a call's kind says of the call. It is looked up once for all of them: a constant table is built anew wherever it
-// is read.
+// What the row of a call's kind says of the call. It is looked up once for all of them.
 ghost use Rattle.std.specs.Prelude.{◌≡◌};
-ghost use Rattle.spec_calls.specs.Kinds.{kind_of, is_known, unused_are_zero, from_interrupt, from_thread, names};
+ghost use Rattle.spec_calls.specs.Kinds.{is_known, unused_are_zero, from_interrupt, from_thread};
 
-use code_calls::kinds::names;
+use code_calls::kinds::Ruled;
 use spec_calls::call::Call;
-use spec_calls::kinds::{INTERRUPT, Kind, LAST_KIND, THREAD};
+use spec_calls::kinds::{Caller, LAST_KIND};
 
+#[tactic(auto, unfolding(spec_calls::specs::Kinds::is_known))]
 pub fn is_known(c: Call) -> bool
     ensures { result ≡ is_known c }
 {
-    if c.kind == 0 {
-        return false;
-    }
-    c.kind <= LAST_KIND
+    0 < c.kind && c.kind <= LAST_KIND
 }
 
 // Whether each field that the kind doesn't use is 0.
-pub(crate) fn unused_are_zero(kind: Kind, c: Call) -> bool
-    requires { kind ≡ kind_of c }
-    ensures { result ≡ unused_are_zero c }
+#[tactic(auto, unfolding(spec_calls::specs::Kinds::unused_are_zero))]
+pub(crate) fn unused_are_zero(r: Ruled) -> bool
+    ensures { result ≡ unused_are_zero r.call }
 {
-    let used = kind.used;
-    if used % 2 == 0 {
-        if c.a != 0 {
-            return false;
-        }
-    }
-    if used / 2 % 2 == 0 {
-        if c.b != 0 {
-            return false;
-        }
-    }
-    if used / 4 % 2 == 0 {
-        if c.c != 0 {
-            return false;
-        }
-    }
-    if used / 8 % 2 == 0 {
-        if c.d != 0 {
-            return false;
-        }
-    }
-    c.e == 0
+    let used = r.row.used;
+    let c = r.call;
+    (used % 2 == 1 || c.a == 0)
+        && (used / 2 % 2 == 1 || c.b == 0)
+        && (used / 4 % 2 == 1 || c.c == 0)
+        && (used / 8 % 2 == 1 || c.d == 0)
+        && c.e == 0
 }
 
-pub(crate) fn from_interrupt(kind: Kind, c: Call) -> bool
-    requires { kind ≡ kind_of c }
-    ensures { result ≡ from_interrupt c }
+#[tactic(auto, unfolding(spec_calls::specs::Kinds::from_interrupt))]
+pub(crate) fn from_interrupt(r: Ruled) -> bool
+    ensures { result ≡ from_interrupt r.call }
 {
-    kind.caller == INTERRUPT
+    r.row.caller == Caller::Interrupt
 }
 
-pub(crate) fn from_thread(kind: Kind, c: Call) -> bool
-    requires { kind ≡ kind_of c }
-    ensures { result ≡ from_thread c }
+#[tactic(auto, unfolding(spec_calls::specs::Kinds::from_thread))]
+pub(crate) fn from_thread(r: Ruled) -> bool
+    ensures { result ≡ from_thread r.call }
 {
-    kind.caller == THREAD
-}
-
-// Whether the call names a message.
-pub(crate) fn names_message(kind: Kind, c: Call) -> bool
-    requires { kind ≡ kind_of c }
-    ensures { result ≡ names (kind_of c).message }
-{
-    names(kind.message)
+    r.row.caller == Caller::Thread
 }

@@ -1,17 +1,19 @@
 // The refusals in table order, over what a call names.
 #![tactic(auto)]
 
-ghost use Rattle.std.specs.Prelude.{◌≡◌, ◌&&◌};
-ghost use Rattle.spec_calls.specs.Kinds.{kind_of};
-ghost use Rattle.spec_refusals.specs.Refusals.{outside, unknown, bad_number, bad_id, pops_nothing, stops_caller, blocks_in_region, none_free};
+ghost use Rattle.std.specs.Prelude.{◌≡◌, ◌&&◌, not, leb};
+ghost use Rattle.spec_calls.specs.Kinds.{names, is_which};
+ghost use Rattle.spec_refusals.specs.Numbers.{number, number_in};
+ghost use Rattle.spec_refusals.specs.Refusals.{outside, unknown, interrupts_off, no_caller, is_in_channel, not_owner, not_periodic, bad_number, bad_id, pops_nothing, stops_caller, blocks_in_region, none_free};
 ghost use Rattle.spec_refusals.specs.Refusals.{has_waiters, number_from};
 
-use code_calls::kinds::{kind_of, names};
+use code_calls::kinds::{Ruled, names, with_row};
 use code_kernel::places::is_queued;
 use spec_calls::call::Call;
-use spec_calls::kinds::{A, BIT, Kind};
+use spec_calls::kinds::Which;
 use spec_kernel::sizes;
 use spec_refusals::named::Named;
+use spec_refusals::refusal::Refusal;
 
 mod kinds;
 
@@ -20,51 +22,43 @@ const PRIORITY: u32 = sizes::PRIORITIES as u32;
 
 const CHANNEL: u32 = sizes::CHANNELS as u32;
 
-fn both(a: bool, b: bool) -> bool
-    ensures { result ≡ (a && b) }
+#[tactic(auto, unfolding(spec_refusals::specs::Refusals::unknown))]
+fn unknown(r: Ruled) -> bool
+    ensures { result ≡ unknown r.call }
 {
-    if a { b } else { false }
+    !(kinds::is_known(r.call) && kinds::unused_are_zero(r))
 }
 
-fn unknown(kind: Kind, c: Call) -> bool
-    requires { kind ≡ kind_of c }
-    ensures { result ≡ unknown c }
+#[tactic(auto, unfolding(spec_refusals::specs::Refusals::interrupts_off))]
+fn interrupts_off(critical: u8, r: Ruled) -> bool
+    ensures { result ≡ interrupts_off critical r.call }
 {
-    if !kinds::is_known(c) {
-        return true;
-    }
-    !kinds::unused_are_zero(kind, c)
+    kinds::from_interrupt(r) && 0 < critical
+}
+
+#[tactic(auto, unfolding(spec_refusals::specs::Refusals::no_caller))]
+fn no_caller(runner: u8, r: Ruled) -> bool
+    ensures { result ≡ no_caller runner r.call }
+{
+    kinds::from_thread(r) && runner == 255
 }
 
 fn outside(low: u32, high: u32, n: u32) -> bool
     ensures { result ≡ outside low high n }
 {
-    if n < low {
-        return true;
-    }
-    high < n
+    n < low || high < n
 }
 
+#[tactic(auto, unfolding(spec_refusals::specs::Refusals::bad_number))]
 fn bad_number(c: Call) -> bool
     ensures { result ≡ bad_number c }
 {
-    let kind = c.kind;
-    match kind {
+    match c.kind {
         2 => outside(1, PRIORITY, c.a as u32),
         4 => outside(1, PRIORITY, c.b as u32),
         7 => c.c == 0,
-        14 => {
-            if outside(1, 65535, c.c) {
-                return true;
-            }
-            c.c < (c.b as u32)
-        }
-        16 => {
-            if c.c == 0 {
-                return true;
-            }
-            c.d == 0
-        }
+        14 => outside(1, 65535, c.c) || c.c < c.b as u32,
+        16 => c.c == 0 || c.d == 0,
         20 => 1 < c.b,
         26 => outside(1, CHANNEL, c.c),
         27 => outside(1, 32767, c.b as u32),
@@ -72,55 +66,78 @@ fn bad_number(c: Call) -> bool
     }
 }
 
-fn bad_id(n: Named, kind: Kind, c: Call) -> bool
-    requires { kind ≡ kind_of c }
-    ensures { result ≡ bad_id n c }
+// Whether the call names one that isn't live.
+fn names_dead(which: Which, live: bool) -> bool
+    ensures { result ≡ (names which && not live) }
 {
-    if both(names(kind.thread), !n.thread) {
-        return true;
-    }
-    if both(names(kind.semaphore), !n.semaphore.live) {
-        return true;
-    }
-    if both(kind.event == A, sizes::EVENT_IDS <= c.a) {
-        return true;
-    }
-    if both(kind.event == BIT, sizes::BITS <= c.a) {
-        return true;
-    }
-    if both(names(kind.message), !n.message.live) {
-        return true;
-    }
-    both(names(kind.flag), !n.flag)
+    names(which) && !live
+}
+
+// Whether it names an event, or an event bit, that there isn't.
+fn names_past(which: Which, what: Which, id: u8, count: u8) -> bool
+    ensures { result ≡ (is_which which what && leb count id) }
+{
+    which == what && count <= id
+}
+
+#[tactic(auto, unfolding(spec_refusals::specs::Refusals::bad_id))]
+fn bad_id(n: Named, r: Ruled) -> bool
+    ensures { result ≡ bad_id n r.call }
+{
+    let row = r.row;
+    names_dead(row.thread, n.thread)
+        || names_dead(row.semaphore, n.semaphore.live)
+        || names_past(row.event, Which::A, r.call.a, sizes::EVENT_IDS)
+        || names_past(row.event, Which::Bit, r.call.a, sizes::BITS)
+        || names_dead(row.message, n.message.live)
+        || names_dead(row.flag, n.flag)
+}
+
+#[tactic(auto, unfolding(spec_refusals::specs::Refusals::is_in_channel))]
+fn is_in_channel(n: Named, r: Ruled) -> bool
+    ensures { result ≡ is_in_channel n r.call }
+{
+    names(r.row.message) && is_queued(n.message)
+}
+
+#[tactic(auto, unfolding(spec_refusals::specs::Refusals::not_owner))]
+fn not_owner(runner: u8, n: Named, r: Ruled) -> bool
+    ensures { result ≡ not_owner runner n r.call }
+{
+    names(r.row.message) && n.message.owner != runner
+}
+
+#[tactic(auto, unfolding(spec_refusals::specs::Refusals::not_periodic))]
+fn not_periodic(n: Named, c: Call) -> bool
+    ensures { result ≡ not_periodic n c }
+{
+    c.kind == 17 && n.semaphore.period == 0
 }
 
 // The semaphore or flag to destroy has a first waiter.
+#[tactic(auto, unfolding(spec_refusals::specs::Refusals::has_waiters))]
 fn has_waiters(n: Named, c: Call) -> bool
     ensures { result ≡ has_waiters n c }
 {
-    let kind = c.kind;
-    match kind {
-        15 | 32 => n.waiter != 255,
-        _ => false,
-    }
+    matches!(c.kind, 15 | 32) && n.waiter != 255
 }
 
+#[tactic(auto, unfolding(spec_refusals::specs::Refusals::pops_nothing))]
 fn pops_nothing(unscheduled: u8, critical: u8, c: Call) -> bool
     ensures { result ≡ pops_nothing unscheduled critical c }
 {
-    let kind = c.kind;
-    match kind {
+    match c.kind {
         9 | 10 => unscheduled == 0,
         12 | 13 => critical == 0,
         _ => false,
     }
 }
 
+#[tactic(auto, unfolding(spec_refusals::specs::Refusals::stops_caller))]
 fn stops_caller(runner: u8, n: Named, c: Call) -> bool
     ensures { result ≡ stops_caller runner n c }
 {
-    let kind = c.kind;
-    match kind {
+    match c.kind {
         3 => c.a == runner,
         6 | 7 => true,
         18 => n.semaphore.count == 0,
@@ -131,26 +148,23 @@ fn stops_caller(runner: u8, n: Named, c: Call) -> bool
 }
 
 // Inside a region, a call that would stop the caller; a flag's pend comes from a single critical one, and from nowhere else.
+#[tactic(auto, unfolding(spec_refusals::specs::Refusals::blocks_in_region))]
 fn blocks_in_region(unscheduled: u8, critical: u8, runner: u8, n: Named, c: Call) -> bool
     ensures { result ≡ blocks_in_region unscheduled critical runner n c }
 {
     if c.kind == 33 {
-        return !both(unscheduled == 0, critical == 1);
+        !(unscheduled == 0 && critical == 1)
+    } else {
+        (0 < unscheduled || 0 < critical) && stops_caller(runner, n, c)
     }
-    if unscheduled == 0 {
-        if critical == 0 {
-            return false;
-        }
-    }
-    stops_caller(runner, n, c)
 }
 
 // No free id, or a push at level 255.
+#[tactic(auto, unfolding(spec_refusals::specs::Refusals::none_free))]
 fn none_free(unscheduled: u8, critical: u8, n: Named, c: Call) -> bool
     ensures { result ≡ none_free unscheduled critical n c }
 {
-    let kind = c.kind;
-    match kind {
+    match c.kind {
         2 | 14 | 24 | 31 => n.found == 255,
         8 => unscheduled == 255,
         11 => critical == 255,
@@ -158,44 +172,66 @@ fn none_free(unscheduled: u8, critical: u8, n: Named, c: Call) -> bool
     }
 }
 
-// The number of the answer, by the levels, who runs and what the call names: 0 where it is accepted.
+// The first refusal of the table that applies, by the levels, who runs and what the call names.
+#[tactic(auto, unfolding(spec_refusals::specs::Refusals::number_from))]
+fn refusal_of(unscheduled: u8, critical: u8, runner: u8, n: Named, c: Call) -> Option<Refusal>
+    ensures { number_in result ≡ number_from unscheduled critical runner n c }
+{
+    let r = with_row(c);
+    if unknown(r) {
+        Some(Refusal::Unknown)
+    } else if interrupts_off(critical, r) {
+        Some(Refusal::InterruptsOff)
+    } else if no_caller(runner, r) {
+        Some(Refusal::NoCaller)
+    } else if bad_number(c) {
+        Some(Refusal::BadNumber)
+    } else if bad_id(n, r) {
+        Some(Refusal::BadId)
+    } else if is_in_channel(n, r) {
+        Some(Refusal::InChannel)
+    } else if not_owner(runner, n, r) {
+        Some(Refusal::NotOwner)
+    } else if has_waiters(n, c) {
+        Some(Refusal::HasWaiters)
+    } else if not_periodic(n, c) {
+        Some(Refusal::NotPeriodic)
+    } else if pops_nothing(unscheduled, critical, c) {
+        Some(Refusal::PopsNothing)
+    } else if blocks_in_region(unscheduled, critical, runner, n, c) {
+        Some(Refusal::BlocksInRegion)
+    } else if none_free(unscheduled, critical, n, c) {
+        Some(Refusal::NoneFree)
+    } else {
+        None
+    }
+}
+
+fn number(r: Refusal) -> u8
+    ensures { result ≡ number r }
+{
+    match r {
+        Refusal::Unknown => 1,
+        Refusal::NoCaller => 2,
+        Refusal::InterruptsOff => 3,
+        Refusal::BadId => 4,
+        Refusal::BadNumber => 5,
+        Refusal::BlocksInRegion => 6,
+        Refusal::NoneFree => 7,
+        Refusal::NotOwner => 8,
+        Refusal::InChannel => 9,
+        Refusal::HasWaiters => 10,
+        Refusal::PopsNothing => 11,
+        Refusal::NotPeriodic => 12,
+    }
+}
+
+// The number of the answer: 0 where the call is accepted.
 pub fn number_of(unscheduled: u8, critical: u8, runner: u8, n: Named, c: Call) -> u8
     ensures { result ≡ number_from unscheduled critical runner n c }
 {
-    let kind = kind_of(c);
-    if unknown(kind, c) {
-        return 1;
+    match refusal_of(unscheduled, critical, runner, n, c) {
+        Some(r) => number(r),
+        None => 0,
     }
-    if both(kinds::from_interrupt(kind, c), 0 < critical) {
-        return 3;
-    }
-    if both(kinds::from_thread(kind, c), runner == 255) {
-        return 2;
-    }
-    if bad_number(c) {
-        return 5;
-    }
-    if bad_id(n, kind, c) {
-        return 4;
-    }
-    if both(kinds::names_message(kind, c), is_queued(n.message)) {
-        return 9;
-    }
-    if both(kinds::names_message(kind, c), n.message.owner != runner) {
-        return 8;
-    }
-    if has_waiters(n, c) {
-        return 10;
-    }
-    if both(c.kind == 17, n.semaphore.period == 0) {
-        return 12;
-    }
-    if pops_nothing(unscheduled, critical, c) {
-        return 11;
-    }
-    if blocks_in_region(unscheduled, critical, runner, n, c) {
-        return 6;
-    }
-    let full = none_free(unscheduled, critical, n, c);
-    if full { 7 } else { 0 }
 }

@@ -1,46 +1,35 @@
 -- The table of call kinds: who may call, which fields have a meaning, and whom of each class a call names or can touch.
 use Rattle.std.specs.Prelude.{ℕ, ◌+◌, ◌/◌, ◌%◌, Bool, cond, ◌&&◌, ◌||◌, List, [], ◌∷◌, eqb, ltb, leb, get_or}
 use Rattle.spec_calls.specs.declared.call.Call.{Call}
+use Rattle.spec_calls.specs.declared.kinds.Caller.{Caller}
+use Rattle.spec_calls.specs.declared.kinds.Caller.TheVariants.{Thread, ThreadOrBoot, Interrupt}
+use Rattle.spec_calls.specs.declared.kinds.Which.{Which}
+use Rattle.spec_calls.specs.declared.kinds.Which.TheVariants.{Nobody, A, B, Runner, Waiter, New, Taken, Bit, Any}
 use Rattle.spec_calls.specs.declared.kinds.Kind.{Kind}
 
--- who calls
-abbrev pub by_thread : ℕ
-by_thread = 0
+-- two words for who calls are the same
+abbrev pub caller_code : Caller → ℕ
+caller_code Thread = 0
+caller_code ThreadOrBoot = 1
+caller_code Interrupt = 2
 
-abbrev pub by_thread_or_boot : ℕ
-by_thread_or_boot = 1
+abbrev pub is_caller : Caller → Caller → Bool
+is_caller x y = eqb (caller_code x) (caller_code y)
 
-abbrev pub by_interrupt : ℕ
-by_interrupt = 2
+-- two words for which one of a class are the same
+abbrev pub which_code : Which → ℕ
+which_code Nobody = 0
+which_code A = 1
+which_code B = 2
+which_code Runner = 3
+which_code Waiter = 4
+which_code New = 5
+which_code Taken = 6
+which_code Bit = 7
+which_code Any = 8
 
--- Which one of a class the call names, or can touch: nobody; that of id a, of id b; the running thread; the first that waits for
--- semaphore or flag a; the one that is made; the message that a pend gets; event bit a; any of them.
-abbrev pub nobody : ℕ
-nobody = 0
-
-abbrev pub the_a : ℕ
-the_a = 1
-
-abbrev pub the_b : ℕ
-the_b = 2
-
-abbrev pub the_runner : ℕ
-the_runner = 3
-
-abbrev pub the_waiter : ℕ
-the_waiter = 4
-
-abbrev pub the_new : ℕ
-the_new = 5
-
-abbrev pub the_taken : ℕ
-the_taken = 6
-
-abbrev pub the_bit : ℕ
-the_bit = 7
-
-abbrev pub anybody : ℕ
-anybody = 8
+abbrev pub is_which : Which → Which → Bool
+is_which x y = eqb (which_code x) (which_code y)
 
 -- a used field has a bit
 abbrev pub fa : ℕ
@@ -55,12 +44,12 @@ fc = 4
 abbrev pub fd : ℕ
 fd = 8
 
-abbrev pub row : ℕ → ℕ → ℕ → ℕ → ℕ → ℕ → ℕ → Kind
+abbrev pub row : Caller → ℕ → Which → Which → Which → Which → Which → Kind
 row caller used thread semaphore event message flag =
     record { caller = caller; used = used; thread = thread; semaphore = semaphore; event = event; message = message; flag = flag }
 
 abbrev pub no_kind : Kind
-no_kind = row by_thread 0 nobody nobody nobody nobody nobody
+no_kind = row Thread 0 Nobody Nobody Nobody Nobody Nobody
 
 -- The rows of kinds 0 to 34; 0 is no kind, and 31 to 34 are document 02's [02 §1]. A row has who calls: an interrupt (kinds 1, 28, 29 and
 -- 30); the running thread or, while none runs, the boot (2, 14 and 20); the running thread only (all others) [01, records 3 to 5]; then the
@@ -68,51 +57,51 @@ no_kind = row by_thread 0 nobody nobody nobody nobody nobody
 abbrev pub kinds : List Kind
 kinds =
     no_kind
-    ∷ row by_interrupt 0 anybody anybody nobody nobody nobody  -- 1 tick
-    ∷ row by_thread_or_boot fa the_new nobody nobody nobody nobody  -- 2 create thread, priority a
-    ∷ row by_thread fa the_a nobody nobody anybody nobody  -- 3 destroy thread a
-    ∷ row by_thread (fa + fb) the_a nobody nobody nobody nobody  -- 4 set priority of a to b
-    ∷ row by_thread fa the_a nobody nobody nobody nobody  -- 5 reset priority of a
-    ∷ row by_thread 0 the_runner nobody nobody nobody nobody  -- 6 yield
-    ∷ row by_thread fc the_runner nobody nobody nobody nobody  -- 7 sleep c
-    ∷ row by_thread 0 nobody nobody nobody nobody nobody  -- 8 push unscheduled
-    ∷ row by_thread 0 nobody nobody nobody nobody nobody  -- 9 pop unscheduled
-    ∷ row by_thread 0 nobody nobody nobody nobody nobody  -- 10 pop all unscheduled
-    ∷ row by_thread 0 nobody nobody nobody nobody nobody  -- 11 push critical
-    ∷ row by_thread 0 nobody nobody nobody nobody nobody  -- 12 pop critical
-    ∷ row by_thread 0 nobody nobody nobody nobody nobody  -- 13 pop all critical
-    ∷ row by_thread_or_boot (fb + fc) nobody the_new nobody nobody nobody  -- 14 create semaphore, count b, maximum c
-    ∷ row by_thread fa the_waiter the_a nobody nobody nobody  -- 15 destroy semaphore a
-    ∷ row by_thread (fa + fc + fd) nobody the_a nobody nobody nobody  -- 16 make semaphore a periodic, delay c, period d
-    ∷ row by_thread fa nobody the_a nobody nobody nobody  -- 17 remove periodic a
-    ∷ row by_thread (fa + fc) the_runner the_a nobody nobody nobody  -- 18 pend semaphore a, timeout c
-    ∷ row by_thread fa the_waiter the_a nobody nobody nobody  -- 19 post semaphore a
-    ∷ row by_thread_or_boot (fa + fb + fc + fd) anybody nobody the_a nobody nobody  -- 20 load event a, mode b, mask c, values d
-    ∷ row by_thread (fa + fc) the_runner nobody the_a nobody nobody  -- 21 pend event a, timeout c
-    ∷ row by_thread fa anybody nobody the_bit nobody nobody  -- 22 set event bit a
-    ∷ row by_thread fa anybody nobody the_bit nobody nobody  -- 23 clear event bit a
-    ∷ row by_thread (fb + fc + fd) nobody nobody nobody the_new nobody  -- 24 create message, type b, size c, address d
-    ∷ row by_thread fa nobody nobody nobody the_a nobody  -- 25 destroy message a
-    ∷ row by_thread (fa + fb + fc) the_b nobody nobody the_a nobody  -- 26 post message a to thread b, channel c
-    ∷ row by_thread (fb + fc) the_runner nobody nobody the_taken nobody  -- 27 pend message, mask b, timeout c
-    ∷ row by_interrupt fa the_waiter the_a nobody nobody nobody  -- 28 interrupt: post semaphore a
-    ∷ row by_interrupt fa anybody nobody the_bit nobody nobody  -- 29 interrupt: set bit a
-    ∷ row by_interrupt fa anybody nobody the_bit nobody nobody  -- 30 interrupt: clear bit a
-    ∷ row by_thread 0 nobody nobody nobody nobody the_new  -- 31 create flag
-    ∷ row by_thread fa the_waiter nobody nobody nobody the_a  -- 32 destroy flag a
-    ∷ row by_thread (fa + fc) the_runner nobody nobody nobody the_a  -- 33 pend flag a, timeout c
-    ∷ row by_thread fa anybody nobody nobody nobody the_a  -- 34 post flag a
+    ∷ row Interrupt 0 Any Any Nobody Nobody Nobody  -- 1 tick
+    ∷ row ThreadOrBoot fa New Nobody Nobody Nobody Nobody  -- 2 create thread, priority a
+    ∷ row Thread fa A Nobody Nobody Any Nobody  -- 3 destroy thread a
+    ∷ row Thread (fa + fb) A Nobody Nobody Nobody Nobody  -- 4 set priority of a to b
+    ∷ row Thread fa A Nobody Nobody Nobody Nobody  -- 5 reset priority of a
+    ∷ row Thread 0 Runner Nobody Nobody Nobody Nobody  -- 6 yield
+    ∷ row Thread fc Runner Nobody Nobody Nobody Nobody  -- 7 sleep c
+    ∷ row Thread 0 Nobody Nobody Nobody Nobody Nobody  -- 8 push unscheduled
+    ∷ row Thread 0 Nobody Nobody Nobody Nobody Nobody  -- 9 pop unscheduled
+    ∷ row Thread 0 Nobody Nobody Nobody Nobody Nobody  -- 10 pop all unscheduled
+    ∷ row Thread 0 Nobody Nobody Nobody Nobody Nobody  -- 11 push critical
+    ∷ row Thread 0 Nobody Nobody Nobody Nobody Nobody  -- 12 pop critical
+    ∷ row Thread 0 Nobody Nobody Nobody Nobody Nobody  -- 13 pop all critical
+    ∷ row ThreadOrBoot (fb + fc) Nobody New Nobody Nobody Nobody  -- 14 create semaphore, count b, maximum c
+    ∷ row Thread fa Waiter A Nobody Nobody Nobody  -- 15 destroy semaphore a
+    ∷ row Thread (fa + fc + fd) Nobody A Nobody Nobody Nobody  -- 16 make semaphore a periodic, delay c, period d
+    ∷ row Thread fa Nobody A Nobody Nobody Nobody  -- 17 remove periodic a
+    ∷ row Thread (fa + fc) Runner A Nobody Nobody Nobody  -- 18 pend semaphore a, timeout c
+    ∷ row Thread fa Waiter A Nobody Nobody Nobody  -- 19 post semaphore a
+    ∷ row ThreadOrBoot (fa + fb + fc + fd) Any Nobody A Nobody Nobody  -- 20 load event a, mode b, mask c, values d
+    ∷ row Thread (fa + fc) Runner Nobody A Nobody Nobody  -- 21 pend event a, timeout c
+    ∷ row Thread fa Any Nobody Bit Nobody Nobody  -- 22 set event bit a
+    ∷ row Thread fa Any Nobody Bit Nobody Nobody  -- 23 clear event bit a
+    ∷ row Thread (fb + fc + fd) Nobody Nobody Nobody New Nobody  -- 24 create message, type b, size c, address d
+    ∷ row Thread fa Nobody Nobody Nobody A Nobody  -- 25 destroy message a
+    ∷ row Thread (fa + fb + fc) B Nobody Nobody A Nobody  -- 26 post message a to thread b, channel c
+    ∷ row Thread (fb + fc) Runner Nobody Nobody Taken Nobody  -- 27 pend message, mask b, timeout c
+    ∷ row Interrupt fa Waiter A Nobody Nobody Nobody  -- 28 interrupt: post semaphore a
+    ∷ row Interrupt fa Any Nobody Bit Nobody Nobody  -- 29 interrupt: set bit a
+    ∷ row Interrupt fa Any Nobody Bit Nobody Nobody  -- 30 interrupt: clear bit a
+    ∷ row Thread 0 Nobody Nobody Nobody Nobody New  -- 31 create flag
+    ∷ row Thread fa Waiter Nobody Nobody Nobody A  -- 32 destroy flag a
+    ∷ row Thread (fa + fc) Runner Nobody Nobody Nobody A  -- 33 pend flag a, timeout c
+    ∷ row Thread fa Any Nobody Nobody Nobody A  -- 34 post flag a
     ∷ []
 
 unfoldable pub kind_of : Call → Kind
 kind_of c = get_or kinds c.kind no_kind
 
 -- A call names the one whose id is its field a or b.
-abbrev pub names : ℕ → Bool
-names which = eqb which the_a || eqb which the_b
+abbrev pub names : Which → Bool
+names which = is_which which A || is_which which B
 
-abbrev pub id_named : ℕ → Call → ℕ
-id_named which c = cond (eqb which the_b) c.b c.a
+abbrev pub id_named : Which → Call → ℕ
+id_named which c = cond (is_which which B) c.b c.a
 
 -- the last row's number
 abbrev pub last_kind : ℕ
@@ -135,7 +124,7 @@ unused_are_zero c =
     && eqb c.e 0
 
 unfoldable pub from_interrupt : Call → Bool
-from_interrupt c = eqb (kind_of c).caller by_interrupt
+from_interrupt c = is_caller (kind_of c).caller Interrupt
 
 unfoldable pub from_thread : Call → Bool
-from_thread c = eqb (kind_of c).caller by_thread
+from_thread c = is_caller (kind_of c).caller Thread

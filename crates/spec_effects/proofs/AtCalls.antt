@@ -17,7 +17,8 @@ use Rattle.spec_kernel.specs.Free.{free_thread, free_semaphore, free_message, fr
 use Rattle.spec_kernel.specs.Channels.{next_message}
 use Rattle.spec_kernel.specs.Conditions.{is_ready, ready_for}
 use Rattle.spec_calls.specs.declared.call.Call.{Call}
-use Rattle.spec_calls.specs.Kinds.{no_kind, kinds, kind_of, from_thread, the_new, the_taken}
+use Rattle.spec_calls.specs.declared.kinds.Which.TheVariants.{New, Taken}
+use Rattle.spec_calls.specs.Kinds.{no_kind, kinds, kind_of, from_thread, is_which}
 use Rattle.spec_refusals.specs.Named.{value_of}
 use Rattle.spec_threads.proofs.LawsOfHomes.{Stopped, Runnable}
 use Rattle.spec_laws.specs.Laws.{laws_of_kinds, no_law, law_of}
@@ -61,11 +62,11 @@ module _ {k : Kernel} (B : Before k) {c : Call} (A : Accepted k c) where
 -- ---- the law and the value of kind n
 abbrev pub value_at : ℕ → Kernel → Call → ℕ
 value_at n k c =
-    cond (eqb (get_or kinds n no_kind).thread the_new) (free_thread k)
-    (cond (eqb (get_or kinds n no_kind).semaphore the_new) (free_semaphore k)
-    (cond (eqb (get_or kinds n no_kind).message the_new) (free_message k)
-    (cond (eqb (get_or kinds n no_kind).message the_taken) (next_message k c.b)
-    (cond (eqb (get_or kinds n no_kind).flag the_new) (free_flag k) 255))))
+    cond (is_which (get_or kinds n no_kind).thread New) (free_thread k)
+    (cond (is_which (get_or kinds n no_kind).semaphore New) (free_semaphore k)
+    (cond (is_which (get_or kinds n no_kind).message New) (free_message k)
+    (cond (is_which (get_or kinds n no_kind).message Taken) (next_message k c.b)
+    (cond (is_which (get_or kinds n no_kind).flag New) (free_flag k) 255))))
 
 pub by_kind : (k : Kernel) (c : Call) {n : ℕ} → c.kind ≡ n → (k' : Kernel) → get_or laws_of_kinds n no_law k c (value_at n k c) k'
     → law_of k c (value_of k c) k'

@@ -5,7 +5,8 @@ use Rattle.spec_kernel.specs.declared.records.Kernel.{Kernel}
 use Rattle.spec_kernel.specs.Sizes.{event_count, priority_count, channel_count, bit_count}
 use Rattle.spec_kernel.specs.Places.{is_queued}
 use Rattle.spec_calls.specs.declared.call.Call.{Call}
-use Rattle.spec_calls.specs.Kinds.{the_a, the_bit, kind_of, names, is_known, unused_are_zero, from_interrupt, from_thread}
+use Rattle.spec_calls.specs.declared.kinds.Which.TheVariants.{A, Bit}
+use Rattle.spec_calls.specs.Kinds.{is_which, kind_of, names, is_known, unused_are_zero, from_interrupt, from_thread}
 use Rattle.spec_refusals.specs.declared.named.Named.{Named}
 use Rattle.spec_refusals.specs.Named.{named}
 
@@ -62,8 +63,8 @@ bad_id n c =
     some_of
     ((names (kind_of c).thread && not n.thread)
     ∷ (names (kind_of c).semaphore && not n.semaphore.live)
-    ∷ (eqb (kind_of c).event the_a && leb event_count c.a)
-    ∷ (eqb (kind_of c).event the_bit && leb bit_count c.a)
+    ∷ (is_which (kind_of c).event A && leb event_count c.a)
+    ∷ (is_which (kind_of c).event Bit && leb bit_count c.a)
     ∷ (names (kind_of c).message && not n.message.live)
     ∷ (names (kind_of c).flag && not n.flag)
     ∷ [])
