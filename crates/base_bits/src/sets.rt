@@ -7,17 +7,12 @@ ghost use Rattle.base_bits.specs.Sets.{joined};
 pub fn has(set: u64, x: u8) -> bool
     ensures { result ≡ has_bit set x }
 {
-    if x < 64 { (set >> x) % 2 == 1 } else { false }
+    x < 64 && (set >> x) % 2 == 1
 }
 
 // The set with x in it, where it joins; a number above 63 leaves it.
 pub fn joined(set: u64, x: usize, joins: bool) -> u64
     ensures { result ≡ joined set x joins }
 {
-    if x < 64 {
-        if joins {
-            return set | (1 << x);
-        }
-    }
-    set
+    if joins && x < 64 { set | (1 << x) } else { set }
 }
