@@ -7,10 +7,10 @@ use Rattle.base_rows.proofs.entries.head_of.Goals as goal
 use Rattle.base_rows.proofs.entries.head_of.Goals.{After-flag_of, After-flag_of-2}
 
 code_small : (c : After-flag_of) → c.flag_of.result ≤ 1
-code_small c = let a = c.args in rw c.flag_of.ensures (flag_small a.code a.told)
+code_small c = rw c.flag_of.ensures (flag_small _ _)
 
 flags_small : (c : After-flag_of-2) → c.flag_of-2.result ≤ 1
-flags_small c = rw c.flag_of-2.ensures (flag_small c.args.flags 0)
+flags_small c = rw c.flag_of-2.ensures (flag_small _ _)
 
 pub overflow_mul-result : goal.overflow_mul-result
 overflow_mul-result c = omega (arith, code_small (goal.at.overflow_mul-result c).After-flag_of)
@@ -26,4 +26,4 @@ overflow_add-result-2 c = omega (arith, code_small (goal.at.overflow_add-result-
 
 pub returns : goal.returns
 unfolding head_of
-returns c = rw (c.flag_of.ensures, c.flag_of-2.ensures)
+returns c = rw (c.flag_of.ensures, c.flag_of-2.ensures, c.from.ensures, c.from-2.ensures, c.from-3.ensures)
