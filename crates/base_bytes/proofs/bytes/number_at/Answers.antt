@@ -3,9 +3,9 @@
 use Prim.Native.Nat.{◌+◌, ◌-◌, ◌*◌, ◌<◌, ◌≤◌, ◌^◌, min}
 use mathlib.Core.Path.{◌≡◌, sym, ◌∙◌}
 use native.Mathlib.Omega.{arith}
-use lib.ListN.{length, get_or, drop}
+use lib.ListN.{get_or, drop}
 use Rattle.base_bytes.specs.Bytes.{un}
-use Rattle.base_bytes.proofs.Turns.{un_next, un_word, drop_least}
+use Rattle.base_bytes.proofs.Turns.{un_next, un_word}
 use Rattle.base_bytes.proofs.bytes.number_at.Goals as goal
 use Rattle.base_bytes.proofs.bytes.number_at.Goals.{In-loop-i}
 
@@ -39,9 +39,3 @@ overflow_add-x c = omega (arith, small (goal.at.overflow_add-x c).In-loop-i, c.b
 
 pub loop-i-preserved : goal.loop-i-preserved
 loop-i-preserved c = sym (step (goal.at.loop-i-preserved c).In-loop-i ∙ rw (c.from.ensures, c.byte_at.ensures))
-
-pub returns : goal.returns
-returns c =
-    let e : min c.args.w 4 - c.loop-i.i ≡ min c.args.w 4 = omega arith in
-    let f : c.min-start.result + c.loop-i.i ≡ min c.args.at (length c.args.s.now) = omega arith in
-    c.loop-i.invariant ∙ rw (e, f, drop_least)
