@@ -1,7 +1,6 @@
 -- `base_rows::entries::head_of` meets its contract.
 use Rattle.base_rows.specs.Entries.{head_of}
 use Rattle.base_rows.proofs.entries.head_of.Goals as goal
-use Rattle.base_rows.proofs.entries.head_of.Goals.{After-flag_of, After-flag_of-2}
 
 pub returns : goal.returns
 unfolding head_of
