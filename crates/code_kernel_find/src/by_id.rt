@@ -2,7 +2,7 @@
 ghost use Rattle.std.specs.Prelude.{◌≡◌, get_or};
 ghost use Rattle.spec_kernel.specs.Records.{no_thread, no_semaphore, no_event, no_message};
 
-use code_kernel::records::{no_message, no_semaphore, no_thread};
+use code_kernel::records::{no_message, no_semaphore, no_thread, record_at};
 use spec_kernel::records::{Event, Message, Semaphore, Thread};
 use spec_kernel::sizes;
 
@@ -35,11 +35,4 @@ pub fn message_at(messages: [Message; sizes::MESSAGES], m: u8) -> Message
     ensures { result ≡ get_or messages m no_message }
 {
     record_at(&messages, m as usize, no_message())
-}
-
-// The record at i, or past the last `none`.
-pub(crate) fn record_at<T: Copy>(records: &[T], i: usize, none: T) -> T
-    ensures { result ≡ get_or records.now i none }
-{
-    records.get(i).copied().unwrap_or(none)
 }

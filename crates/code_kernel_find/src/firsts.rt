@@ -6,11 +6,10 @@ ghost use Rattle.base_queue.specs.Queues.{items};
 ghost use Rattle.spec_kernel.specs.Channels.{is_for, first_for};
 ghost use Rattle.code_kernel_find.specs.AtHome.{first_at_home};
 
-use crate::by_id::record_at;
 use base_queue::Queue;
 use code_kernel::conditions::masks;
 use code_kernel::places;
-use code_kernel::records::{no_message, no_thread};
+use code_kernel::records::{no_message, no_thread, record_at};
 use spec_kernel::records::{Message, Thread};
 use spec_kernel::sizes;
 
