@@ -57,10 +57,7 @@ pub fn record_at<T: Copy>(records: &[T], i: usize, none: T) -> T
 pub fn is_flag(flags: u16, i: u8) -> bool
     ensures { result ≡ flag_in flags i }
 {
-    if sizes::FLAG_IDS <= i {
-        return false;
-    }
-    base_bits::bit(flags as u32, i)
+    i < sizes::FLAG_IDS && base_bits::bit(flags as u32, i)
 }
 
 // The fresh state: nothing is live, nobody runs, and the events, in mode any, have no bit masked.
