@@ -6,7 +6,6 @@ ghost use Rattle.spec_notes.specs.Sections.{semaphore_noted, semaphore_entries};
 
 use crate::semaphore_rows;
 use crate::semaphore_rows::WIDTHS;
-use base_bytes::bytes::least;
 use base_rows::entries::put_entry;
 use spec_calls::call::Call;
 use spec_kernel::records::Semaphore;
@@ -53,7 +52,7 @@ pub fn put_semaphores(
 ) -> usize
     ensures { pen log.new result ≡ puts (pen log.old at) (semaphore_entries c old new first count) }
 {
-    let end = least(first as usize + count as usize, sizes::SEMAPHORES);
+    let end = (first as usize + count as usize).min(sizes::SEMAPHORES);
     let mut p = at;
     for i in first as usize..end {
         p = put_changed_semaphore(log, p, i as u8, c, old[i], new[i]);

@@ -16,7 +16,7 @@ loop-i-preserved c =
     let a = c.args in
     let l = c.loop-i in
     let b = c.put_changed_semaphore-p in
-    let h : l.i < a.first + a.count = omega (arith, c.least-end.ensures) in
+    let h : l.i < a.first + a.count = omega (arith, c.min-end.ensures) in
     (b.auto.log ∙ l.invariant.0, l.invariant.1 ∙ rw (entries_next _ _ l.i (a.first + a.count) h, puts_append, b.ensures))
 
 pub returns : goal.returns
@@ -24,6 +24,6 @@ unfolding puts
 returns c =
     let a = c.args in
     let l = c.loop-i in
-    let h : min (a.first + a.count) semaphore_count ≤ l.i = omega (arith, c.least-end.ensures) in
+    let h : min (a.first + a.count) semaphore_count ≤ l.i = omega (arith, c.min-end.ensures) in
     sym (l.invariant.1 ∙ rw (entries_past (changed_semaphore a.c) a.old a.new no_semaphore _ (a.first + a.count) (search rules) (search rules)
     (no_semaphore_lem a.c) h))
