@@ -16,6 +16,13 @@ use spec_kernel::records::{Event, Kernel, Message, Semaphore, Thread};
 use spec_kernel::sizes;
 use spec_rules::tests::Asked;
 
+// Whether two tables have the same records, by a test of two of them.
+fn same_all<T, F: Fn(&T, &T) -> bool>(a: &[T], b: &[T], same: F) -> bool
+    requires { F.IsAlwaysCallable same }
+    ensures { (test : T → T → Bool) → ((x y : T) (r : Bool) → FnReturns same x y r → r ≡ test x y) → result ≡ same_all test a.now b.now }
+{
+    a.len() == b.len() && a.iter().zip(b).all(|(x, y)| same(x, y))
+}
 fn same_threads(a: [Thread; sizes::THREADS], b: [Thread; sizes::THREADS]) -> bool
     ensures { result ≡ same_all same_thread a b }
 {
