@@ -2,17 +2,16 @@
 -- Assumes nothing.
 use mathlib.Core.Path.{◌≡◌, refl, sym, ◌∙◌}
 use mathlib.Core.Bool.{true, false, or-true, or-false, and-false, and-eq-true_iff}
-use Prim.Native.Nat.{ℕ, ◌+◌, ◌-◌, ◌*◌, ◌%◌, ◌^◌, ◌≤◌, ◌<◌}
-use native.Mathlib.Nat.{one-mul}
-use native.Mathlib.Nat.{add-sub_cancel, sub-add_cancel}
+use Prim.Native.Nat.{ℕ, zero, suc, ◌+◌, ◌-◌, ◌*◌, ◌/◌, ◌%◌, ◌^◌, ◌≤◌, ◌<◌}
+use native.Mathlib.Nat.{one-mul, add-sub_cancel, sub-add_cancel, pow-suc}
 use native.Mathlib.Omega.{arith}
-use lib.Bits.{bit_and, bit_or, or_add_and, or_lt}
+use lib.Bits.{bit_and, bit_or, and_step, or_add_and, or_lt}
 use lib.Dec.{ltb, lit<}
 use lib.Pow.{pow-lt, shl_exact}
 use borrow.Author.Tests.{lt-ltb, le-ltb, ltb-true}
 use Rattle.base_bits.specs.Words.{has_bit, bit_at, with_bit, without_bit, every_below, some_below, all_match, any_match}
 use Rattle.base_bits.proofs.Digits.{either, below, digit, bit_has, bit_or_lem}
-use Rattle.base_bits.proofs.Members.{single_has, single_lacks, and_single, has_large, taken_lacks}
+use Rattle.base_bits.proofs.Members.{single_has, single_lacks, and_single, has_large, has_past, taken_lacks}
 
 -- With mask 0 every masked bit matches, and not one does [01, calls: Event 3].
 pub mask_none : (values bits : ℕ) → all_match 0 values bits ≡ true
@@ -38,6 +37,11 @@ single_other i j n = rw (single_lacks i j n, and-false)
 -- ---- the two definitions, case by case
 
 module _ (word i : ℕ) where
+  -- of a word the test of any number is that of the first 32
+  pub word_has : word < 2 ^ 32 → bit_at word i ≡ has_bit word i
+  unfolding bit_at
+  word_has s = below i (λ h. rw (lt-ltb i 32 h)) (λ h. rw (le-ltb i 32 h) (sym (has_past word 32 s i h)))
+
   pub with_high : 32 ≤ i → with_bit word i ≡ word
   unfolding with_bit
   with_high h = rw (le-ltb i 32 h)
@@ -56,6 +60,20 @@ module _ (word i : ℕ) where
 
 -- ---- the same by operations on whole words
 
+-- what a mask takes away and what its complement leaves are the whole word
+and_rest : (n word mask : ℕ) → word < 2 ^ n → mask < 2 ^ n → bit_and word (2 ^ n - 1 - mask) + bit_and word mask ≡ word
+and_rest zero word mask a b =
+    let z : word ≡ 0 = omega arith in
+    rw z
+and_rest (suc n) word mask a b =
+    let p : 2 ^ suc n ≡ 2 ^ n * 2 = pow-suc 2 n in
+    let w : word / 2 < 2 ^ n = omega arith in
+    let m : mask / 2 < 2 ^ n = omega arith in
+    let high : (2 ^ suc n - 1 - mask) / 2 ≡ 2 ^ n - 1 - mask / 2 = omega arith in
+    let low : (2 ^ suc n - 1 - mask) % 2 ≡ 1 - mask % 2 = omega arith in
+    let rest = and_rest n (word / 2) (mask / 2) w m in
+    rw (and_step word (2 ^ suc n - 1 - mask), and_step word mask, high, low) (omega arith)
+
 module _ (word i : ℕ) (h : i < 32) where
   and_bit : bit_and word (2 ^ i) ≡ digit (bit_at word i) * 2 ^ i
   and_bit = and_single word i ∙ rw (bit_has word i h)
@@ -66,9 +84,11 @@ module _ (word i : ℕ) (h : i < 32) where
       let sum : bit_or word (2 ^ i) + digit (bit_at word i) * 2 ^ i ≡ word + 2 ^ i = rw and_bit at (or_add_and word (2 ^ i)) in
       rw (lt-ltb i 32 h) (either (bit_at word i) (λ e. rw e (omega (arith, rw e at sum))) (λ e. rw e (omega (arith, rw e at sum))))
 
-  pub without_and : without_bit word i ≡ word - bit_and word (2 ^ i)
+  pub without_and : word < 2 ^ 32 → without_bit word i ≡ bit_and word (2 ^ 32 - 1 - 2 ^ i)
   unfolding without_bit
-  without_and = rw and_bit (either (bit_at word i) (λ e. rw e (omega arith)) (λ e. rw e (omega arith)))
+  without_and s =
+      let sum : bit_and word (2 ^ 32 - 1 - 2 ^ i) + digit (bit_at word i) * 2 ^ i ≡ word = rw and_bit at (and_rest 32 word (2 ^ i) s (pow-lt h)) in
+      either (bit_at word i) (λ e. rw e (omega (arith, rw e at sum))) (λ e. rw e (omega (arith, rw e at sum)))
 
 -- ---- a bit that is set can be taken away
 

@@ -10,7 +10,7 @@ pub mod sets;
 pub fn bit(word: u32, i: u8) -> bool
     ensures { result ≡ bit_at word i }
 {
-    if i < 32 { (word >> i) % 2 == 1 } else { false }
+    sets::has(u64::from(word), i)
 }
 
 // The word with bit i set; a bit above 31 leaves it.
@@ -24,11 +24,7 @@ pub fn with_bit(word: u32, i: u8) -> u32
 pub fn without_bit(word: u32, i: u8) -> u32
     ensures { result ≡ without_bit word i }
 {
-    if i < 32 {
-        word - (word & (1 << i))
-    } else {
-        word
-    }
+    if i < 32 { word & !(1 << i) } else { word }
 }
 
 // Whether each masked bit is as its value says.

@@ -1,27 +1,29 @@
 -- What one turn of each loop over bytes adds, and what is left where it ends.
 use Prim.Native.Nat.{ℕ, zero, suc, ◌+◌, ◌-◌, ◌*◌, ◌/◌, ◌%◌, ◌^◌, ◌≤◌, ◌<◌, min}
-use mathlib.Core.Path.{◌≡◌}
+use mathlib.Core.Path.{◌≡◌, refl, sym, ap₂}
 use mathlib.Core.List.{List, [], ◌∷◌}
-use mathlib.Core.Bool.{true, false}
-use native.Mathlib.Nat.{add-zero, zero-min, suc-min-suc, pow-le-pow_right}
+use mathlib.Core.Bool.{◌&&◌}
+use native.Mathlib.Nat.{add-zero, add_comm, zero-min, suc-min-suc, pow-le-pow_right}
 use native.Mathlib.Numerals.{add-one}
 use native.Mathlib.Omega.{arith}
-use lib.ListN.{length, get_or, drop, drop_of_length-le}
-use lib.Seq.{drop-nil, drop-cons, drop-drop, get_or-drop}
-use borrow.Author.Tests.{eq-eqb, ne_eqb}
+use lib.ListN.{length, get_or, take, drop, length-drop}
+use lib.Seq.{drop-nil, drop-drop, get_or-drop, take_all}
+use lib.Dec.{eqb}
+use borrow.Author.Tests.{eqb-true, eqb-false, eq-eqb, ne_eqb}
+use borrow.Table.Steps.{cases}
+use Rattle.std.specs.Cmp.Lexicographic.{pointwise}
 use Rattle.base_bytes.specs.Bytes.{le, un, begins}
 use Rattle.base_bytes.proofs.Numbers.{un_small}
 
 -- one byte of a number that is written
-pub le_next : (k x : ℕ) → 0 < k → le k x ≡ x % 256 ∷ le (k - 1) (x / 256)
+pub le_next : (k j x : ℕ) → k ≡ j + 1 → le k x ≡ x % 256 ∷ le j (x / 256)
 unfolding le
-le_next zero x h = absurd (omega arith)
-le_next (suc k) x h = let e : suc k - 1 ≡ k = omega arith in rw e
+le_next k j x e = rw (e, add-one)
 
 -- one byte of a number that is read, from the last on
-pub un_next : (s : List ℕ) (a b n m : ℕ) → a + 1 ≡ b → n + 1 ≡ m → un m (drop a s) ≡ get_or s a 0 + 256 * un n (drop b s)
+pub un_next : (s : List ℕ) (a b n m : ℕ) → a + 1 ≡ b → n + 1 ≡ m → un m (drop a s) ≡ 256 * un n (drop b s) + get_or s a 0
 unfolding un
-un_next s a b n m e f = rw (← f, add-one, get_or-drop, add-zero, drop-drop, e)
+un_next s a b n m e f = rw (← f, add-one, get_or-drop, add-zero, drop-drop, e) (add_comm _ _)
 
 -- four bytes are a word
 pub un_word : (s : List ℕ) (n a : ℕ) → n ≤ 4 → ((i : ℕ) → get_or s i 0 < 256) → un n (drop a s) < 2 ^ 32
@@ -35,21 +37,22 @@ drop_least [] at = rw (drop-nil, drop-nil)
 drop_least (x ∷ s) zero = rw zero-min
 drop_least (x ∷ s) (suc at) = rw suc-min-suc (drop_least s at)
 
--- one byte that is compared
-module _ (bytes s : List ℕ) (i p : ℕ) (h : i < length bytes) where
-  pub begins_short : length s ≤ p → begins (drop i bytes) (drop p s) ≡ false
-  unfolding begins
-  begins_short g = rw (drop-cons bytes i 0 h, drop_of_length-le s g)
+-- a byte is another where that one is it
+eqb_turned : (a b : ℕ) → eqb a b ≡ eqb b a
+eqb_turned a b =
+    cases (eqb a b) (λ e. rw (e, eq-eqb b a (sym (eqb-true a b e))))
+    (λ e. rw (e, ne_eqb b a (λ q. eqb-false a b e (sym q))))
 
-  pub begins_other : p < length s → (get_or s p 0 ≡ get_or bytes i 0 → ⊥) → begins (drop i bytes) (drop p s) ≡ false
-  unfolding begins
-  begins_other g e = rw (drop-cons bytes i 0 h, drop-cons s p 0 g, ne_eqb _ _ e)
-
-  pub begins_next : p < length s → get_or s p 0 ≡ get_or bytes i 0
-      → begins (drop i bytes) (drop p s) ≡ begins (drop (i + 1) bytes) (drop (p + 1) s)
-  unfolding begins
-  begins_next g e = rw (drop-cons bytes i 0 h, drop-cons s p 0 g, eq-eqb _ _ e, add-one, add-one)
-
-pub begins_end : (bytes s : List ℕ) (i : ℕ) → length bytes ≤ i → begins (drop i bytes) s ≡ true
+-- std's test for the beginning is ours
+begins_starts : (bytes s : List ℕ) → pointwise eqb bytes (take (length bytes) s) ≡ begins bytes s
 unfolding begins
-begins_end bytes s i h = rw (drop_of_length-le bytes h)
+begins_starts [] s = refl
+begins_starts (b ∷ bytes) [] = refl
+begins_starts (b ∷ bytes) (x ∷ s) = ap₂ ◌&&◌ (eqb_turned b x) (begins_starts bytes s)
+
+-- and so it is of what stands from a place on
+pub begins_from : (bytes s : List ℕ) (at from : ℕ) → from ≡ min at (length s)
+    → pointwise eqb bytes (take (length bytes) (take (length s - from) (drop from s))) ≡ begins bytes (drop at s)
+begins_from bytes s at from e =
+    let all : length (drop from s) ≤ length s - from = simp length-drop (omega arith) in
+    rw (take_all (length s - from) (drop from s) all, e, drop_least) (begins_starts bytes (drop at s))

@@ -1,14 +1,15 @@
 -- Laws on pens: what several writers write together, and what a log holds that had room for it.
-use Prim.Native.Nat.{ℕ, suc, ◌+◌, ◌-◌, ◌≤◌, ◌<◌, min}
-use mathlib.Core.Path.{◌≡◌, refl, ap, ◌∙◌}
+use Prim.Native.Nat.{ℕ, suc, ◌+◌, ◌-◌, ◌≤◌, min}
+use mathlib.Core.Path.{◌≡◌, refl, sym, ap, ◌∙◌}
 use mathlib.Core.List.{List, [], ◌∷◌, ◌++◌, append_assoc}
 use mathlib.Core.Bool.{Bool, true, false, cond}
 use native.Mathlib.Nat.{zero-add}
 use native.Mathlib.Numerals.{add-one}
 use native.Mathlib.Omega.{arith}
 use lib.Dec.{ltb}
-use lib.ListN.{length, take, drop, set, get_or, length-set, drop_of_length-le}
-use lib.Seq.{sets, sets-eq, take-append_seam, drop-cons}
+use lib.ListN.{length, take, drop, set, length-set, drop_of_length-le}
+use lib.Seq.{sets, sets-eq, take-append_seam, length-take-le}
+use Rattle.std.proofs.lemmas.List.{take-append-drop}
 use borrow.Author.Tests.{lt-ltb, le-ltb, ltb-true, ltb-false}
 use borrow.Table.Steps.{cases}
 use Rattle.base_bytes.specs.Pens.{Pen, pen, put, puts}
@@ -35,26 +36,6 @@ unfolding puts put
 puts_full l k [] h = refl
 puts_full l k (b ∷ bytes) h = rw (le-ltb k (length l) h) (puts_full l k bytes h)
 
--- Of several bytes from place k on: one more,
-pub puts_next : (l : List ℕ) (k i : ℕ) (bytes : List ℕ) → k + i < length l → i < length bytes
-    → puts (pen l (k + i)) (drop i bytes) ≡ puts (pen (set l (k + i) (get_or bytes i 0)) (k + (i + 1))) (drop (i + 1) bytes)
-unfolding puts put
-puts_next l k i bytes room more =
-    let m = set l (k + i) (get_or bytes i 0) in
-    let e : k + i + 1 ≡ k + (i + 1) = omega arith in
-    let one : put (pen l (k + i)) (get_or bytes i 0) ≡ pen m (k + i + 1) = rw (lt-ltb (k + i) (length l) room) in
-    let f : suc i ≡ i + 1 = omega arith in
-    ap (puts (pen l (k + i))) (drop-cons bytes i 0 more) ∙ ap (λ p. puts p (drop (suc i) bytes)) one
-    ∙ ap (λ p. puts (pen m p) (drop (suc i) bytes)) e ∙ ap (λ n. puts (pen m (k + (i + 1))) (drop n bytes)) f
-
--- and no more, where the bytes or the log end.
-pub puts_end : (l : List ℕ) (k i : ℕ) (bytes : List ℕ) → min (length bytes) (length l - k) ≤ i
-    → puts (pen l (k + i)) (drop i bytes) ≡ pen l (k + i)
-unfolding puts
-puts_end l k i bytes h =
-    cases (ltb i (length bytes)) (λ e. puts_full l (k + i) (drop i bytes) (omega (arith, h, ltb-true i (length bytes) e)))
-    (λ e. rw (drop_of_length-le bytes (ltb-false i (length bytes) e)))
-
 -- With room, all of it is written.
 puts_sets : (l : List ℕ) (k : ℕ) (bytes : List ℕ) → k + length bytes ≤ length l
     → puts (pen l k) bytes ≡ pen (sets l k bytes) (k + length bytes)
@@ -70,6 +51,22 @@ pub puts_room : (l : List ℕ) (k : ℕ) (bytes : List ℕ) → k + length bytes
 puts_room l k bytes h =
     puts_sets l k bytes h
     ∙ ap (λ m. pen m (k + length bytes)) (sets-eq bytes l k h ∙ append_assoc (take k l) bytes (drop (k + length bytes) l))
+
+-- Without, what there is room for.
+pub puts_some : (l : List ℕ) (k : ℕ) (bytes : List ℕ) (n : ℕ) → k ≤ length l → n ≡ min (length bytes) (length l - k)
+    → puts (pen l k) bytes ≡ pen (take k l ++ (take n bytes ++ drop (k + n) l)) (k + n)
+unfolding puts
+puts_some l k bytes n h e =
+    let front = take n bytes in
+    let m = take k l ++ (front ++ drop (k + n) l) in
+    let f : length front ≡ n = length-take-le n bytes (omega arith) in
+    let one : puts (pen l k) front ≡ pen m (k + n) = rw f at (puts_room l k front (omega arith)) in
+    let s : length m ≡ length l = ap (λ p. length p.log) (sym one) ∙ length_puts (pen l k) front in
+    let rest : puts (pen m (k + n)) (drop n bytes) ≡ pen m (k + n) =
+    cases (ltb n (length bytes)) (λ t. puts_full m (k + n) (drop n bytes) (omega (arith, ltb-true n (length bytes) t)))
+    (λ t. rw (drop_of_length-le bytes (ltb-false n (length bytes) t))) in
+    ap (puts (pen l k)) (sym (take-append-drop n bytes)) ∙ puts_append (pen l k) front (drop n bytes)
+    ∙ ap (λ p. puts p (drop n bytes)) one ∙ rest
 
 -- From the front of a log that is long enough,
 pub puts_front : (l bytes : List ℕ) → length bytes ≤ length l → puts (pen l 0) bytes ≡ pen (bytes ++ drop (length bytes) l) (length bytes)

@@ -9,11 +9,9 @@ pub fn write(log: &mut [u8], used: usize, note: &[u8]) -> usize
     ensures { (log.new ≡ noted log.old used note.now)
         × (result ≡ ends log.old used note.now) }
 {
-    if log.len() < used {
-        return used;
+    if log.len() < used || log.len() - used < note.len() {
+        used
+    } else {
+        put_all(log, used, note)
     }
-    if log.len() - used < note.len() {
-        return used;
-    }
-    put_all(log, used, note)
 }

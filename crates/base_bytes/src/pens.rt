@@ -3,17 +3,16 @@ ghost use Rattle.std.specs.Prelude.{◌≡◌};
 ghost use Rattle.base_bytes.specs.Bytes.{le};
 ghost use Rattle.base_bytes.specs.Pens.{pen, put, puts};
 
-use crate::bytes::least;
-
 // One byte.
 pub fn put_byte(log: &mut [u8], at: usize, b: u8) -> usize
     ensures { pen log.new result ≡ put (pen log.old at) b }
 {
     if at < log.len() {
         log[at] = b;
-        return at + 1;
+        at + 1
+    } else {
+        at
     }
-    at
 }
 
 // The w lowest bytes of x, lowest first.
@@ -21,28 +20,22 @@ pub fn put_number(log: &mut [u8], at: usize, w: usize, x: u32) -> usize
     ensures { pen log.new result ≡ puts (pen log.old at) (le w x) }
 {
     let mut p = at;
-    let mut k = w;
-    let mut y = x;
-    while 0 < k {
-        p = put_byte(log, p, (y % 256) as u8);
-        y = y / 256;
-        k -= 1;
+    let mut rest = x;
+    for _ in 0..w {
+        p = put_byte(log, p, (rest % 256) as u8);
+        rest /= 256;
     }
     p
 }
 
-// Bytes as they stand. How many there is room for is found out first: the loop then copies, and tests nothing.
+// Bytes as they stand, as many as there is room for.
 pub fn put_all(log: &mut [u8], at: usize, bytes: &[u8]) -> usize
     ensures { pen log.new result ≡ puts (pen log.old at) bytes.now }
 {
     if log.len() <= at {
         return at;
     }
-    let n = least(bytes.len(), log.len() - at);
-    let mut i: usize = 0;
-    while i < n {
-        log[at + i] = bytes[i];
-        i += 1;
-    }
+    let n = bytes.len().min(log.len() - at);
+    log[at..at + n].copy_from_slice(&bytes[..n]);
     at + n
 }

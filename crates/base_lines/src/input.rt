@@ -13,6 +13,7 @@ pub fn read_full<R: Read>(input: &mut R, buffer: &mut [u8]) -> io::Result<usize>
     ensures full { IfOk result (λ n. n < length buffer.new → IsAtEnd (R.remaining input.new)) }
 {
     let mut done: usize = 0;
+    // A `while`: no range or chain is plainer, since each read takes as much as it gets.
     while done < buffer.len() {
         let n = input.read(&mut buffer[done..])?;
         if n == 0 {

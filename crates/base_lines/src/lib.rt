@@ -16,14 +16,12 @@ fn put_digits(n: u64, digits: &mut [u8; 20]) -> usize
     ensures whole { spelt_behind 0 (drop result digits.new) ≡ n }
 {
     let mut rest = n;
-    let mut i: usize = 20;
-    while 0 < i {
-        i -= 1;
+    for i in (0..20).rev() {
         digits[i] = b'0' + (rest % 10) as u8;
         if rest < 10 {
             return i;
         }
-        rest = rest / 10;
+        rest /= 10;
     }
     0
 }
@@ -50,11 +48,8 @@ pub fn put_line(out: &mut [u8], at: usize, numbers: &[u64]) -> usize
     ensures { pen out.new result ≡ puts (pen out.old at) (line numbers.now) }
 {
     let mut p = at;
-    let mut i: usize = 0;
-    while i < numbers.len() {
-        let n = numbers[i];
-        i += 1;
-        p = put_number(out, p, n, end_of(i == numbers.len()));
+    for (i, n) in numbers.iter().enumerate() {
+        p = put_number(out, p, *n, end_of(i + 1 == numbers.len()));
     }
     p
 }
@@ -64,7 +59,8 @@ pub fn up_to(bytes: &[u8], end: usize) -> &[u8]
     ensures { result.now ≡ take end bytes.now }
 {
     if end <= bytes.len() {
-        return &bytes[..end];
+        &bytes[..end]
+    } else {
+        bytes
     }
-    bytes
 }

@@ -6,7 +6,7 @@ ghost use Rattle.base_rows.specs.Entries.{flags_and_fields, unless_predicted, co
 ghost use Rattle.base_rows.specs.Entries.{code_in, flags_in, row_in, size_in};
 
 use crate::rows::{Row, flag_of, flags_of, put_body, row_at, taken_by, used_by};
-use base_bytes::bytes::{byte_at, least};
+use base_bytes::bytes::byte_at;
 use base_bytes::pens::put_byte;
 
 // Of an old row what isn't as predicted: its flags, then those fields.
@@ -34,16 +34,17 @@ pub fn put_unless_predicted(
     ensures { pen log.new result ≡ puts (pen log.old at) (unless_predicted widths old predicted) }
 {
     if flags_of(old, predicted) == 0 {
-        return at;
+        at
+    } else {
+        put_fields(log, at, widths, old, predicted)
     }
-    put_fields(log, at, widths, old, predicted)
 }
 
 // The id, 64 where the code isn't as predicted, and 128 where any flag is set.
 fn head_of(id: u8, code: u8, told: u8, flags: u8) -> u8
     ensures { result ≡ head_of id code told flags }
 {
-    id % 64 + 64 * flag_of(code as u32, told as u32) + 128 * flag_of(flags as u32, 0)
+    id % 64 + 64 * flag_of(u32::from(code), u32::from(told)) + 128 * flag_of(u32::from(flags), 0)
 }
 
 // A code that isn't as predicted.
@@ -51,9 +52,10 @@ fn put_code(log: &mut [u8], at: usize, code: u8, told: u8) -> usize
     ensures { pen log.new result ≡ puts (pen log.old at) (code_noted code told) }
 {
     if code == told {
-        return at;
+        at
+    } else {
+        put_byte(log, at, code)
     }
-    put_byte(log, at, code)
 }
 
 // The entry of an id, of its code and the predicted one, its old row and the predicted one. An id is below 64.
@@ -91,9 +93,10 @@ pub fn code_in(e: &[u8], told: u8) -> u8
     ensures { result ≡ code_in told (get_or e.now 0 0) (drop 1 e.now) }
 {
     if byte_at(e, 0) / 64 % 2 == 1 {
-        return byte_at(e, 1);
+        byte_at(e, 1)
+    } else {
+        told
     }
-    told
 }
 
 // How many bytes stand between its head and its flags.
@@ -116,16 +119,17 @@ fn flags_in(e: &[u8]) -> u8
 {
     let head = byte_at(e, 0);
     if head / 128 % 2 == 1 {
-        return byte_at(e, 1 + flags_from(head) as usize);
+        byte_at(e, 1 + usize::from(flags_from(head)))
+    } else {
+        0
     }
-    0
 }
 
 // Its row: a flagged field from the bytes, another as predicted.
 pub fn row_in(e: &[u8], widths: [u8; 8], predicted: [u32; 8]) -> Row
     ensures { result.fields ≡ row_in (cut widths) predicted (get_or e.now 0 0) (drop 1 e.now) }
 {
-    let at = 1 + fields_from(byte_at(e, 0)) as usize;
+    let at = 1 + usize::from(fields_from(byte_at(e, 0)));
     row_at(e, at, widths, flags_in(e), predicted)
 }
 
@@ -133,7 +137,7 @@ pub fn row_in(e: &[u8], widths: [u8; 8], predicted: [u32; 8]) -> Row
 pub fn size_in(e: &[u8], widths: [u8; 8]) -> usize
     ensures { result ≡ size_in widths e.now }
 {
-    let before = 1 + fields_from(byte_at(e, 0)) as usize;
-    let used = least(used_by(widths, flags_in(e)), e.len());
-    least(before + used, e.len())
+    let before = 1 + usize::from(fields_from(byte_at(e, 0)));
+    let used = used_by(widths, flags_in(e)).min(e.len());
+    (before + used).min(e.len())
 }

@@ -21,12 +21,12 @@ pub fn refused(number: u8, runner: u8, k: Kernel, used: usize) -> Logged
 {
     Logged {
         answer: Answer {
-            number: number,
+            number,
             value: 255,
-            runner: runner,
+            runner,
         },
         kernel: k,
-        used: used,
+        used,
     }
 }
 
@@ -35,10 +35,8 @@ fn next_state(k: Kernel, c: Call) -> Kernel
     ensures { result ≡ next_state k c }
 {
     let mut next = code_effects::effect(k, c);
-    let q = next.places;
-    let first = base_queue::first(q);
-    let threads = next.threads;
-    let r = by_id::thread_at(threads, first as u16);
+    let first = base_queue::first(next.places);
+    let r = by_id::thread_at(next.threads, first as u16);
     next.runner = runner::runner_of(next.unscheduled, next.critical, next.runner, first, r);
     next
 }
@@ -68,13 +66,13 @@ pub fn recorded(k: Kernel, bytes: [u8; 16], log: &mut [u8], used: usize) -> Logg
     let answer = code_answers_given::given(value, k.runner, next.runner, used, end);
     if end == used {
         return Logged {
-            answer: answer,
+            answer,
             kernel: k,
-            used: used,
+            used,
         };
     }
     Logged {
-        answer: answer,
+        answer,
         kernel: next,
         used: end,
     }

@@ -19,7 +19,7 @@ pub fn given(value: u8, before: u8, after: u8, used: usize, end: usize) -> Answe
     }
     Answer {
         number: 0,
-        value: value,
+        value,
         runner: after,
     }
 }

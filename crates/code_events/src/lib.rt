@@ -11,6 +11,7 @@ ghost use Rattle.spec_moves.specs.Standing.{at_home_in};
 ghost use Rattle.code_events.specs.Signals.{signalled};
 
 use code_kernel::places;
+use code_kernel::truth::is_true;
 use code_kernel_find::{by_id, firsts};
 use code_moves::states;
 use spec_calls::call::Call;
@@ -23,12 +24,7 @@ fn wakes(p: Threads, h: u16, bits: u32, e: Event) -> bool
     requires { h < nowhere }
     ensures { result ≡ (is_true bits e && not (is_empty (at_home_in p h))) }
 {
-    if !code_kernel::truth::is_true(bits, e) {
-        return false;
-    }
-    let records = p.records;
-    let queue = p.places;
-    firsts::first_at_home(records, queue, h) != 255
+    is_true(bits, e) && firsts::first_at_home(p.records, p.places, h) != 255
 }
 
 // Each TRUE event wakes all its waiters, in id order.
@@ -36,12 +32,9 @@ fn worked_in(p: Threads, events: [Event; sizes::EVENTS], bits: u32) -> Threads
     ensures { result ≡ work_out_from events bits 0 event_count p }
 {
     let mut next = p;
-    let mut i: usize = 0;
-    while i < sizes::EVENTS {
-        let e = events[i];
+    for (i, e) in events.iter().enumerate() {
         let h = places::OF_EVENTS + (i as u16);
-        i += 1;
-        if wakes(next, h, bits, e) {
+        if wakes(next, h, bits, *e) {
             next = code_threads::woken_in(next, h);
         }
     }
@@ -51,8 +44,7 @@ fn worked_in(p: Threads, events: [Event; sizes::EVENTS], bits: u32) -> Threads
 fn worked_out(k: Kernel) -> Kernel
     ensures { result ≡ worked_out k }
 {
-    let events = k.events;
-    states::with_threads(k, worked_in(states::threads_of(k), events, k.bits))
+    states::with_threads(k, worked_in(states::threads_of(k), k.events, k.bits))
 }
 
 // Event a with its new data, before events are worked out.
@@ -61,8 +53,7 @@ fn loaded(k: Kernel, c: Call) -> Kernel
 {
     let mut next = k;
     if c.a < sizes::EVENT_IDS {
-        let i = c.a as usize;
-        next.events[i] = Event {
+        next.events[c.a as usize] = Event {
             any: c.b == 1,
             mask: c.c,
             values: c.d,
@@ -75,18 +66,16 @@ fn loaded(k: Kernel, c: Call) -> Kernel
 fn changed(k: Kernel, c: Call) -> Kernel
     ensures { worked_out result ≡ signalled k c }
 {
-    let mut next = k;
-    let kind = c.kind;
-    match kind {
+    match c.kind {
         20 => loaded(k, c),
-        22 | 29 => {
-            next.bits = base_bits::with_bit(k.bits, c.a);
-            next
-        }
-        _ => {
-            next.bits = base_bits::without_bit(k.bits, c.a);
-            next
-        }
+        22 | 29 => Kernel {
+            bits: base_bits::with_bit(k.bits, c.a),
+            ..k
+        },
+        _ => Kernel {
+            bits: base_bits::without_bit(k.bits, c.a),
+            ..k
+        },
     }
 }
 
@@ -100,10 +89,9 @@ pub fn signalled(k: Kernel, c: Call) -> Kernel
 pub fn pend_event(k: Kernel, c: Call) -> Kernel
     ensures { result ≡ pend_event k c }
 {
-    let events = k.events;
-    let e = by_id::event_at(events, c.a);
-    if code_kernel::truth::is_true(k.bits, e) {
-        return k;
+    if is_true(k.bits, by_id::event_at(k.events, c.a)) {
+        k
+    } else {
+        code_threads::block(k, Condition::ForEvent(c.a), c.c)
     }
-    code_threads::block(k, Condition::ForEvent(c.a), c.c)
 }

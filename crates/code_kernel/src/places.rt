@@ -17,9 +17,6 @@ pub const OF_FLAGS: u16 = 3 * CLASS;
 // The home of a thread that stands in no list and no queue.
 pub const NOWHERE: u16 = 4 * CLASS;
 
-// The rank of an id that is no thread's: it comes after every thread.
-pub const NO_RANK: u32 = NOWHERE as u32 * 256;
-
 // The list or queue in which a thread of this record has its place.
 pub fn home_of(r: Thread) -> u16
     ensures { result ≡ home_of r }
@@ -27,14 +24,12 @@ pub fn home_of(r: Thread) -> u16
     if !r.live {
         return NOWHERE;
     }
-    let c = r.condition;
-    match c {
+    match r.condition {
         Condition::Ready => r.priority as u16,
-        Condition::Asleep => NOWHERE,
         Condition::ForSemaphore(i) => OF_SEMAPHORES + (i as u16),
         Condition::ForEvent(i) => OF_EVENTS + (i as u16),
-        Condition::ForMessage(_) => NOWHERE,
         Condition::ForFlag(i) => OF_FLAGS + (i as u16),
+        Condition::Asleep | Condition::ForMessage(_) => NOWHERE,
     }
 }
 
@@ -49,18 +44,14 @@ pub fn has_home(r: Thread) -> bool
 pub fn rank_of(r: Thread) -> u32
     ensures { result ≡ rank_of r }
 {
-    let h = home_of(r);
-    (h as u32) * 256 + (r.priority as u32)
+    (home_of(r) as u32) * 256 + (r.priority as u32)
 }
 
 // Whether a message stands in a channel of its owner.
 pub fn is_queued(r: Message) -> bool
     ensures { result ≡ is_queued r }
 {
-    if !r.live {
-        return false;
-    }
-    0 < r.channel
+    r.live && 0 < r.channel
 }
 
 // Its order in the table of posted messages: by owner, then by channel.

@@ -1,5 +1,5 @@
 // The records that aren't live, and the fresh state.
-ghost use Rattle.std.specs.Prelude.{◌≡◌};
+ghost use Rattle.std.specs.Prelude.{◌≡◌, get_or};
 ghost use Rattle.spec_kernel.specs.Records.{no_thread, no_semaphore, no_message, flag_in, fresh};
 
 use spec_kernel::records::{Condition, Event, Kernel, Message, Semaphore, Thread, Wake};
@@ -46,14 +46,18 @@ pub fn no_message() -> Message
     }
 }
 
+// The record at i of a table, or past its last one `none`.
+pub fn record_at<T: Copy>(records: &[T], i: usize, none: T) -> T
+    ensures { result ≡ get_or records.now i none }
+{
+    records.get(i).copied().unwrap_or(none)
+}
+
 // Whether a flag is live: that is all of its record. No id too large is.
 pub fn is_flag(flags: u16, i: u8) -> bool
     ensures { result ≡ flag_in flags i }
 {
-    if sizes::FLAG_IDS <= i {
-        return false;
-    }
-    base_bits::bit(flags as u32, i)
+    i < sizes::FLAG_IDS && base_bits::bit(flags as u32, i)
 }
 
 // The fresh state: nothing is live, nobody runs, and the events, in mode any, have no bit masked.

@@ -1,16 +1,16 @@
 -- The first of a list that a test holds of: a loop that looks for it, and the first thread of a list or queue.
-use Prim.Native.Nat.{ℕ, ◌+◌, ◌≤◌, ◌<◌}
-use mathlib.Core.Path.{◌≡◌, refl, ◌∙◌}
-use mathlib.Core.Bool.{Bool, true, false}
+use Prim.Native.Nat.{ℕ, ◌<◌}
+use mathlib.Core.Path.{◌≡◌, refl}
+use mathlib.Core.Bool.{Bool}
 use mathlib.Core.List.{List, [], ◌∷◌}
-use native.Mathlib.Omega.{arith}
 use lib.Dec.{eqb}
-use lib.ListN.{length, take, drop, get_or}
+use lib.ListN.{length, drop, get_or}
+use borrow.Table.Steps.{cases}
+use Rattle.std.specs.List.{find}
+use Rattle.std.specs.Option.{unwrap_or}
 use Rattle.base_queue.specs.declared.Queue.{Queue}
 use Rattle.base_queue.specs.Lists.{keep, first_of, is_empty}
-use Rattle.base_queue.specs.Queues.{capacity, items}
-use Rattle.base_queue.proofs.Lists.{rest_next, rest_end}
-use Rattle.base_queue.proofs.Queues.{Walk, walk_start, sized_items}
+use Rattle.base_queue.specs.Queues.{items}
 use Rattle.spec_kernel.specs.declared.records.Thread.{Thread}
 use Rattle.spec_kernel.specs.Sizes.{thread_count}
 use Rattle.spec_kernel.specs.Records.{no_thread}
@@ -18,27 +18,10 @@ use Rattle.spec_kernel.specs.Places.{nowhere, home_of}
 use Rattle.spec_moves.proofs.Firsts.{line_empty}
 use Rattle.code_kernel_find.specs.AtHome.{first_at_home}
 
--- a loop that looks for the first that f holds of among the first n of a store: it is not among the first i
-abbrev pub Search : (ℕ → Bool) → List ℕ → ℕ → ℕ → Type 0
-Search f at n i = Walk at n i × (keep f (take n at) ≡ keep f (drop i (take n at)))
-
-module _ (f : ℕ → Bool) (q : Queue) (n : ℕ) (s : n ≡ length (items q)) where
-  -- at first nothing is passed
-  pub search_starts : length q.at ≡ capacity → Search f q.at n 0
-  search_starts e = (walk_start q n s 0 (omega arith) e, refl)
-
-  module _ (i : ℕ) (w : Search f q.at n i) where
-    -- the member at i is the first
-    pub keep_here : i < n → f (get_or q.at i 0) ≡ true → get_or q.at i 0 ≡ first_of (keep f (items q))
-    keep_here h e = rw (sized_items q n s, w.1, rest_next 0 q.at n i h (omega arith), e)
-
-    -- or f does not hold of it, and the search goes on
-    pub keep_skip : i < n → f (get_or q.at i 0) ≡ false → Search f q.at n (i + 1)
-    keep_skip h e = (omega arith, w.1 ∙ rw (rest_next 0 q.at n i h (omega arith), e))
-
-    -- f holds of none
-    pub keep_none : n ≤ i → 255 ≡ first_of (keep f (items q))
-    keep_none h = rw (sized_items q n s, w.1, rest_end q.at n i (omega arith))
+-- the first that f holds of, as a chain finds it
+pub find_first : (f : ℕ → Bool) (l : List ℕ) → unwrap_or (find f l) 255 ≡ first_of (keep f l)
+find_first f [] = refl
+find_first f (x ∷ l) = cases (f x) (λ t. rw t) (λ e. rw e (find_first f l))
 
 -- a first that isn't 255 is the head
 pub first_cons : (l : List ℕ) → (first_of l ≡ 255 → ⊥) → l ≡ first_of l ∷ drop 1 l

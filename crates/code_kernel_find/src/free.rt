@@ -1,83 +1,44 @@
 // The lowest free id, or 255 where there is none.
-ghost use Rattle.std.specs.Prelude.{◌≡◌, cond};
+ghost use Rattle.std.specs.Prelude.{◌≡◌, ◌≤◌, Bool, not, length};
+ghost use Rattle.std.specs.Fn.{FnReturnsAt};
 ghost use Rattle.spec_kernel.specs.Free.{lowest_free, lowest_clear};
 ghost use Rattle.spec_kernel.specs.Sizes.{flag_count};
 
 use spec_kernel::records::{Message, Semaphore, Thread};
 use spec_kernel::sizes;
 
-const LAST_THREAD: usize = sizes::THREADS - 1;
-
-const LAST_SEMAPHORE: usize = sizes::SEMAPHORES - 1;
-
-const LAST_MESSAGE: usize = sizes::MESSAGES - 1;
-
-// How many records to look at: where the last one is free, the others alone. A bound that only the run knows keeps the
-// compiler from writing the loop out, after which it would copy the state record by record.
-fn bound(last: bool, all: usize, others: usize) -> usize
-    ensures { result ≡ cond last all others }
-{
-    if last {
-        return all;
-    }
-    others
-}
-
 pub fn free_thread(threads: [Thread; sizes::THREADS]) -> u8
     ensures { result ≡ lowest_free (λ x. x.live) 0 threads }
 {
-    let n = bound(threads[LAST_THREAD].live, sizes::THREADS, LAST_THREAD);
-    let mut i: usize = 0;
-    while i < n {
-        if !threads[i].live {
-            return i as u8;
-        }
-        i += 1;
-    }
-    if i < sizes::THREADS { i as u8 } else { 255 }
+    lowest_free(&threads, |r| !r.live)
 }
 
 pub fn free_semaphore(semaphores: [Semaphore; sizes::SEMAPHORES]) -> u8
     ensures { result ≡ lowest_free (λ x. x.live) 0 semaphores }
 {
-    let n = bound(
-        semaphores[LAST_SEMAPHORE].live,
-        sizes::SEMAPHORES,
-        LAST_SEMAPHORE,
-    );
-    let mut i: usize = 0;
-    while i < n {
-        if !semaphores[i].live {
-            return i as u8;
-        }
-        i += 1;
-    }
-    if i < sizes::SEMAPHORES { i as u8 } else { 255 }
+    lowest_free(&semaphores, |r| !r.live)
 }
 
 pub fn free_message(messages: [Message; sizes::MESSAGES]) -> u8
     ensures { result ≡ lowest_free (λ x. x.live) 0 messages }
 {
-    let n = bound(messages[LAST_MESSAGE].live, sizes::MESSAGES, LAST_MESSAGE);
-    let mut i: usize = 0;
-    while i < n {
-        if !messages[i].live {
-            return i as u8;
-        }
-        i += 1;
-    }
-    if i < sizes::MESSAGES { i as u8 } else { 255 }
+    lowest_free(&messages, |r| !r.live)
+}
+
+// The place of the first record that is free.
+fn lowest_free<T, F: Fn(&T) -> bool>(records: &[T], is_free: F) -> u8
+    requires callable { F.IsAlwaysCallable is_free }
+    requires few { length records.now ≤ 64 }
+    ensures { (live : T → Bool) → ((x : T) (b : Bool) → FnReturnsAt F.Fn is_free x b → b ≡ not (live x))
+        → result ≡ lowest_free live 0 records.now }
+{
+    records.iter().position(is_free).map_or(255, |i| i as u8)
 }
 
 pub fn free_flag(flags: u16) -> u8
     ensures { result ≡ lowest_clear flags 0 flag_count }
 {
-    let mut i: u8 = 0;
-    while i < sizes::FLAG_IDS {
-        if !base_bits::bit(flags as u32, i) {
-            return i;
-        }
-        i += 1;
-    }
-    255
+    (0..sizes::FLAG_IDS)
+        .find(|&i| !base_bits::bit(flags as u32, i))
+        .unwrap_or(255)
 }

@@ -3,6 +3,7 @@ ghost use Rattle.std.specs.Prelude.{◌≡◌};
 ghost use Rattle.spec_moves.specs.States.{with_threads, move_thread, move_message, scheduled};
 ghost use Rattle.spec_moves.specs.Standing.{threads_of};
 
+use code_kernel::runner::chosen;
 use spec_kernel::records::{Kernel, Message, Thread};
 use spec_kernel::sizes::MESSAGE_IDS;
 use spec_moves::parts::Threads;
@@ -11,13 +12,12 @@ use spec_moves::parts::Threads;
 pub fn threads_of(k: Kernel) -> Threads
     ensures { result ≡ threads_of k }
 {
+    // Named first: the borrow checker covers no literal that reads an array of structs.
     let records = k.threads;
-    let places = k.places;
-    let time = k.time;
     Threads {
-        records: records,
-        places: places,
-        time: time,
+        records,
+        places: k.places,
+        time: k.time,
     }
 }
 
@@ -25,14 +25,14 @@ pub fn threads_of(k: Kernel) -> Threads
 pub fn with_threads(k: Kernel, p: Threads) -> Kernel
     ensures { result ≡ with_threads p k }
 {
-    let records = p.records;
-    let places = p.places;
-    let time = p.time;
-    let mut next = k;
-    next.threads = records;
-    next.places = places;
-    next.time = time;
-    next
+    // Named first, as above.
+    let threads = p.records;
+    Kernel {
+        threads,
+        places: p.places,
+        time: p.time,
+        ..k
+    }
 }
 
 // Thread `id` gets the record r and takes its places.
@@ -50,11 +50,9 @@ pub fn filed(k: Kernel, id: u8, r: Message) -> Kernel
         return k;
     }
     let i = id as usize;
-    let records = k.messages;
-    let posted = k.posted;
     let mut next = k;
     next.messages[i] = r;
-    next.posted = crate::rejoined_posts(records, posted, id, r);
+    next.posted = crate::rejoined_posts(k.messages, k.posted, id, r);
     next
 }
 
@@ -62,13 +60,11 @@ pub fn filed(k: Kernel, id: u8, r: Message) -> Kernel
 pub fn scheduled(k: Kernel) -> Kernel
     ensures { result ≡ scheduled k }
 {
-    if k.unscheduled != 0 {
+    if k.unscheduled != 0 || k.critical != 0 {
         return k;
     }
-    if k.critical != 0 {
-        return k;
+    Kernel {
+        runner: chosen(k),
+        ..k
     }
-    let mut next = k;
-    next.runner = code_kernel::runner::chosen(k);
-    next
 }

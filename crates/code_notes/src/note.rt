@@ -9,7 +9,6 @@ ghost use Rattle.spec_notes.specs.Sections.{flags_noted, message_entries};
 ghost use Rattle.spec_notes.specs.Notes.{section, longest_note};
 ghost use Rattle.code_notes_spans.specs.Spans.{in_span, thread_span, semaphore_span, event_span, message_span};
 
-use base_bytes::bytes::least;
 use base_bytes::pens;
 use code_notes_events::{event_notes, event_rows};
 use code_notes_flags::flag_notes;
@@ -97,13 +96,12 @@ pub fn put_thread_part(
     if s.count == 0 {
         return pens::put_number(log, at, 2, 0);
     }
+    // A variable first: the check doesn't cover a field's array that goes straight into a literal.
     let records = k.threads;
-    let places = k.places;
-    let time = k.time;
     let old = Threads {
-        records: records,
-        places: places,
-        time: time,
+        records,
+        places: k.places,
+        time: k.time,
     };
     let new = k2.threads;
     let mut scratch = [0u8; THREAD_BYTES];
@@ -176,11 +174,11 @@ pub fn put_message_part(
         return pens::put_number(log, at, 2, 0);
     }
     let first = s.first as u8;
+    // A variable first, as in `put_thread_part`.
     let records = k.messages;
-    let posted = k.posted;
     let old = Posts {
-        records: records,
-        posted: posted,
+        records,
+        posted: k.posted,
     };
     let new = k2.messages;
     let mut scratch = [0u8; MESSAGE_BYTES];
@@ -192,5 +190,5 @@ pub fn put_message_part(
 pub fn put_end(log: &mut [u8], at: usize) -> usize
     ensures { pen log.new result ≡ puts (pen log.old at) (le 2 (min at longest_note + 2)) }
 {
-    pens::put_number(log, at, 2, least(at, MOST) as u32 + 2)
+    pens::put_number(log, at, 2, at.min(MOST) as u32 + 2)
 }

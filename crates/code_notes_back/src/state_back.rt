@@ -33,38 +33,31 @@ pub struct Back {
 fn levels_before(c: Call, unscheduled: u8, critical: u8, runner: u8, s: &[u8]) -> Row
     ensures { (result.fields ≡ levels_before c unscheduled critical runner s.now) × (get_or result.fields 2 0 < 256) }
 {
-    let flags = byte_at(s, 0);
     let told = scheduler_rows::predicted(c, unscheduled, critical, runner);
-    let predicted = told.fields;
-    row_at(s, 1, WIDTHS, flags, predicted)
+    row_at(s, 1, WIDTHS, byte_at(s, 0), told.fields)
 }
 
 // Uptime wraps backwards too.
 fn earlier(c: Call, uptime: u32) -> u32
     ensures { result ≡ earlier c uptime }
 {
-    if c.kind != 1 {
-        return uptime;
+    if c.kind == 1 {
+        uptime.wrapping_sub(1)
+    } else {
+        uptime
     }
-    if uptime == 0 { 4294967295 } else { uptime - 1 }
 }
 
 // The part that threads move in.
 pub fn threads_back(c: Call, p: Threads, s: &[u8]) -> Threads
     ensures { result ≡ threads_back c p s.now }
 {
-    let new = p.records;
-    let t = threads_before(c, new, s);
+    let t = threads_before(c, p.records, s);
     let records = t.threads;
-    let out = t.out;
-    let at = t.at;
-    let due = t.due;
-    let places = p.places;
-    let time = p.time;
     Threads {
-        records: records,
-        places: put_back_all(places, out, at),
-        time: put_back_all(time, out, due),
+        records,
+        places: put_back_all(p.places, t.out, t.at),
+        time: put_back_all(p.time, t.out, t.due),
     }
 }
 
@@ -72,15 +65,11 @@ pub fn threads_back(c: Call, p: Threads, s: &[u8]) -> Threads
 pub fn posts_back(c: Call, runner: u8, p: Posts, s: &[u8]) -> Posts
     ensures { result ≡ posts_back c runner p s.now }
 {
-    let new = p.records;
-    let m = messages_before(c, runner, new, s);
+    let m = messages_before(c, runner, p.records, s);
     let records = m.messages;
-    let out = m.out;
-    let at = m.at;
-    let posted = p.posted;
     Posts {
-        records: records,
-        posted: put_back_all(posted, out, at),
+        records,
+        posted: put_back_all(p.posted, m.out, m.at),
     }
 }
 
@@ -88,35 +77,29 @@ pub fn posts_back(c: Call, runner: u8, p: Posts, s: &[u8]) -> Posts
 fn before_at(c: Call, k: Kernel, s: &[u8], u: u8, v: u8, runner: u8) -> Kernel
     ensures { result ≡ before_at c k (sections_at section_count s.now) u v runner }
 {
-    let messages = k.messages;
-    let posted = k.posted;
+    let records = k.messages;
     let posts = Posts {
-        records: messages,
-        posted: posted,
+        records,
+        posted: k.posted,
     };
     let t = threads_back(c, states::threads_of(k), section_of(s, frames::THREADS_AT));
     let m = posts_back(c, k.runner, posts, section_of(s, frames::MESSAGES_AT));
     let bytes = section_of(s, frames::EVENTS_AT);
-    let semaphores = k.semaphores;
-    let events = k.events;
     let threads = t.records;
-    let places = t.places;
-    let time = t.time;
-    let records = m.records;
-    let queue = m.posted;
+    let messages = m.records;
     Kernel {
-        threads: threads,
-        semaphores: semaphores_before(c, semaphores, section_of(s, frames::SEMAPHORES_AT)),
-        events: events_before(events, bytes),
-        messages: records,
-        places: places,
-        time: time,
-        posted: queue,
+        threads,
+        semaphores: semaphores_before(c, k.semaphores, section_of(s, frames::SEMAPHORES_AT)),
+        events: events_before(k.events, bytes),
+        messages,
+        places: t.places,
+        time: t.time,
+        posted: m.posted,
         bits: bits_before(c, k.bits, bytes),
         uptime: earlier(c, k.uptime),
         unscheduled: u,
         critical: v,
-        runner: runner,
+        runner,
         flags: flags_before(c, k.flags, section_of(s, frames::FLAGS_AT)),
     }
 }
@@ -134,19 +117,13 @@ pub fn state_before(c: Call, k: Kernel, s: &[u8]) -> Back
     );
     let u = row.fields[0];
     let v = row.fields[1];
-    if 255 < u {
+    if 255 < u || 255 < v {
         return Back {
             fits: false,
             kernel: k,
         };
     }
-    if 255 < v {
-        return Back {
-            fits: false,
-            kernel: k,
-        };
-    }
-    let runner = (row.fields[2] % 256) as u8;
+    let runner = row.fields[2] as u8;
     let old = before_at(c, k, s, u as u8, v as u8, runner);
     Back {
         fits: true,

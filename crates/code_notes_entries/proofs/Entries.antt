@@ -1,5 +1,5 @@
 -- The entries of a run of ids, one after another.
-use Prim.Native.Nat.{ℕ, zero, suc, ◌+◌, ◌-◌, ◌≤◌, ◌<◌}
+use Prim.Native.Nat.{ℕ, suc, ◌+◌, ◌-◌, ◌≤◌, ◌<◌, min}
 use mathlib.Core.Path.{◌≡◌, refl, sym, ◌∙◌}
 use mathlib.Core.Bool.{Bool, true, false, cond, false≢true}
 use mathlib.Core.List.{List, [], ◌++◌}
@@ -17,26 +17,29 @@ use Rattle.spec_notes.specs.Sections.{entries_from}
 use Rattle.spec_notes.proofs.EntriesShort.{entries_none}
 
 module _ (touched : ℕ → Bool) (entry : ℕ → List ℕ) where
-  -- the first of them, and those behind it
-  pub entries_next : (i n : ℕ) → 0 < n
-      → entries_from touched entry i n ≡ cond (touched i) (entry i) [] ++ entries_from touched entry (i + 1) (n - 1)
-  entries_next i zero h = absurd (omega arith)
-  entries_next i (suc n) h =
-      let e : suc n - 1 ≡ n = omega arith in
-      rw (e, add-one) (go (touched i))
+  -- those of the ids from i up to e: the first of them, and those behind it
+  pub entries_next : (i e : ℕ) → i < e
+      → entries_from touched entry i (e - i) ≡ cond (touched i) (entry i) [] ++ entries_from touched entry (i + 1) (e - (i + 1))
+  entries_next i e h =
+      let n : e - i ≡ suc (e - (i + 1)) = omega arith in
+      rw (n, add-one) (go (touched i))
     where
-      go : (b : Bool) → cond b (entry i ++ entries_from touched entry (suc i) n) (entries_from touched entry (suc i) n)
-          ≡ cond b (entry i) [] ++ entries_from touched entry (suc i) n
+      go : (b : Bool) → cond b (entry i ++ entries_from touched entry (suc i) (e - suc i)) (entries_from touched entry (suc i) (e - suc i))
+          ≡ cond b (entry i) [] ++ entries_from touched entry (suc i) (e - suc i)
       go true = refl
       go false = refl
 
+  -- from e on there is none
+  pub entries_done : (i e : ℕ) → e ≤ i → entries_from touched entry i (e - i) ≡ []
+  entries_done i e h = let n : e - i ≡ 0 = omega arith in rw n
+
 -- past the last record there is the empty one on both sides, which no call changes: no entry
-pub entries_past : {A : Type 0} (changed : A → A → Bool) (old new : List A) (d : A) (entry : ℕ → List ℕ) {m i : ℕ} (n : ℕ)
-    → length old ≡ m → length new ≡ m → changed d d ≡ false → m ≤ i
-    → entries_from (λ j. changed (get_or old j d) (get_or new j d)) entry i n ≡ []
-entries_past changed old new d entry {m} {i} n e f z h =
-    entries_none _ entry i n
-    (λ j l _ t. let b : m ≤ j = omega arith in false≢true (sym z ∙ (rw (past_end old d e b, past_end new d f b) at t)))
+pub entries_past : {A : Type 0} (changed : A → A → Bool) (old new : List A) (d : A) (entry : ℕ → List ℕ) {m i : ℕ} (e : ℕ)
+    → length old ≡ m → length new ≡ m → changed d d ≡ false → min e m ≤ i
+    → entries_from (λ j. changed (get_or old j d) (get_or new j d)) entry i (e - i) ≡ []
+entries_past changed old new d entry {m} {i} e f g z h =
+    entries_none _ entry i (e - i)
+    (λ j l u t. let b : m ≤ j = omega arith in false≢true (sym z ∙ (rw (past_end old d f b, past_end new d g b) at t)))
 
 pub no_semaphore_lem : (c : Call) → changed_semaphore c no_semaphore no_semaphore ≡ false
 unfolding same_semaphore younger_semaphore

@@ -6,7 +6,7 @@ ghost use Rattle.base_queue.specs.Tables.{one};
 pub fn one_if(b: bool) -> u32
     ensures { result ≡ one b }
 {
-    if b { 1 } else { 0 }
+    u32::from(b)
 }
 
 // The first where the test holds, else the second.

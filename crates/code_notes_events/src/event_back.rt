@@ -18,11 +18,9 @@ fn record_in(r: Event, e: &[u8]) -> Event
     ensures { result ≡ event_from
         (row_in event_widths (predicted_event r) (get_or e.now 0 0) (drop 1 e.now)) }
 {
-    let told = event_rows::row_of(r);
-    let predicted = told.fields;
-    let row = row_in(e, WIDTHS, predicted);
-    let fields = row.fields;
-    event_rows::from_row(fields)
+    let predicted = event_rows::row_of(r);
+    let row = row_in(e, WIDTHS, predicted.fields);
+    event_rows::from_row(row.fields)
 }
 
 // Where the entries begin: behind the byte that says that a bit changed.
@@ -38,13 +36,13 @@ pub fn events_before(new: [Event; EVENTS], s: &[u8]) -> [Event; EVENTS]
 {
     let mut a = new;
     let mut p = first_entry(s);
+    // No `for`: how long an entry is, and so where the next one begins, is known once it is read.
     while p < s.len() {
         let e = &s[p..];
         p += size_in(e, WIDTHS);
         let i = id_in(e) as usize;
         if i < EVENTS {
-            let r = new[i];
-            a[i] = record_in(r, e);
+            a[i] = record_in(new[i], e);
         }
     }
     a
@@ -56,10 +54,10 @@ pub fn bits_before(c: Call, word: u32, s: &[u8]) -> u32
     ensures { result ≡ bits_before c word s.now }
 {
     if byte_at(s, 0) != 8 {
-        return word;
+        word
+    } else if base_bits::bit(word, c.a) {
+        base_bits::without_bit(word, c.a)
+    } else {
+        base_bits::with_bit(word, c.a)
     }
-    if base_bits::bit(word, c.a) {
-        return base_bits::without_bit(word, c.a);
-    }
-    base_bits::with_bit(word, c.a)
 }

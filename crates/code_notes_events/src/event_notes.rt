@@ -17,20 +17,20 @@ fn put_event(log: &mut [u8], at: usize, i: u8, old: Event, new: Event) -> usize
 {
     let before = event_rows::row_of(old);
     let told = event_rows::row_of(new);
-    let fields = before.fields;
-    let predicted = told.fields;
-    put_entry(log, at, i, 0, 0, WIDTHS, fields, predicted)
+    put_entry(log, at, i, 0, 0, WIDTHS, before.fields, told.fields)
 }
 
 // The same, where it changed.
+#[tactic(auto, unfolding(base_bytes::specs::Pens::puts))]
 fn put_changed_event(log: &mut [u8], at: usize, i: u8, old: Event, new: Event) -> usize
     ensures { pen log.new result
         ≡ puts (pen log.old at) (cond (changed_event old new) (event_noted i old new) []) }
 {
     if event_rows::same(old, new) {
-        return at;
+        at
+    } else {
+        put_event(log, at, i, old, new)
     }
-    put_event(log, at, i, old, new)
 }
 
 // The changed ones of `count` events from `first` on. Ids past the last have no record that changes.
@@ -44,27 +44,18 @@ pub fn put_events(
 ) -> usize
     ensures { pen log.new result ≡ puts (pen log.old at) (event_entries old new first count) }
 {
+    let end = (first as usize + count as usize).min(sizes::EVENTS);
     let mut p = at;
-    let mut i = first;
-    let mut left = count;
-    while 0 < left {
-        if sizes::EVENT_IDS <= i {
-            return p;
-        }
-        let j = i as usize;
-        p = put_changed_event(log, p, i, old[j], new[j]);
-        i += 1;
-        left -= 1;
+    for i in first as usize..end {
+        p = put_changed_event(log, p, i as u8, old[i], new[i]);
     }
     p
 }
 
 // A byte 8 where a bit changed.
+#[tactic(auto, unfolding(base_bytes::specs::Pens::puts))]
 pub fn put_bits(log: &mut [u8], at: usize, old: u32, new: u32) -> usize
     ensures { pen log.new result ≡ puts (pen log.old at) (bit_noted old new) }
 {
-    if old == new {
-        return at;
-    }
-    put_byte(log, at, 8)
+    if old == new { at } else { put_byte(log, at, 8) }
 }

@@ -5,7 +5,7 @@ ghost use Rattle.spec_notes.specs.Rows.{event_row, event_widths, event_from};
 ghost use Rattle.spec_notes.specs.Touched.{same_event};
 
 use base_rows::rows::Row;
-use code_notes_entries::choices::{one_if, word};
+use code_notes_entries::choices::word;
 use code_notes_entries::fields::same_rows;
 use spec_kernel::records::Event;
 
@@ -19,7 +19,7 @@ pub fn row_of(r: Event) -> Row
     ensures { result.fields ≡ event_row r }
 {
     Row {
-        fields: [one_if(r.any), r.mask, r.values, 0, 0, 0, 0, 0],
+        fields: [u32::from(r.any), r.mask, r.values, 0, 0, 0, 0, 0],
     }
 }
 
@@ -34,6 +34,7 @@ pub fn from_row(row: [u32; 8]) -> Event
     }
 }
 
+#[tactic(auto, unfolding(spec_notes::specs::Touched::same_event))]
 pub fn same(r: Event, s: Event) -> bool
     ensures { result ≡ same_event r s }
 {

@@ -3,7 +3,6 @@ ghost use Rattle.std.specs.Prelude.{◌≡◌};
 ghost use Rattle.spec_notes.specs.Back.{flags_before};
 
 use crate::flag_notes::predicted;
-use base_bytes::bytes::byte_at;
 use spec_calls::call::Call;
 
 // The flag that the section names wasn't live.
@@ -11,8 +10,8 @@ pub fn flags_before(c: Call, flags: u16, s: &[u8]) -> u16
     ensures { result ≡ flags_before c flags s.now }
 {
     let told = predicted(c, flags);
-    if s.len() == 0 {
-        return told;
+    match s.first() {
+        Some(id) => base_bits::without_bit(told as u32, *id) as u16,
+        None => told,
     }
-    base_bits::without_bit(told as u32, byte_at(s, 0)) as u16
 }

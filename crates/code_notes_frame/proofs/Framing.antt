@@ -1,12 +1,12 @@
 -- Laws on a note's frame: each section from where it begins to where the next one does.
 use Prim.Native.Nat.{ℕ, zero, suc, ◌+◌, ◌-◌, ◌*◌, ◌≤◌, ◌<◌, min}
-use mathlib.Core.Path.{◌≡◌, refl, sym, ◌∙◌}
-use mathlib.Core.List.{List, [], ◌∷◌, ◌++◌}
-use native.Mathlib.Numerals.{add-one}
+use mathlib.Core.Path.{◌≡◌, refl, sym, ap, ◌∙◌}
+use mathlib.Core.List.{List, [], ◌++◌, append-nil}
 use native.Mathlib.Omega.{arith}
 use lib.Dec.{eqb, leb}
-use lib.ListN.{length, take, drop, get_or, set, replicate, length-take, length-append, length-drop, get_or-eq_default}
-use lib.Seq.{drop-drop, take-append-le, get_or-take, take-suc, take-suc-set}
+use lib.ListN.{length, take, drop, get_or, replicate, length-take, length-drop, get_or-eq_default}
+use lib.Seq.{drop-drop, take-append-le, take-append-add, take-length}
+use Rattle.std.proofs.lemmas.List.{drop-replicate, take-replicate}
 use borrow.Author.Tests.{eq-eqb, ne_eqb, eqb-true, eqb-false, le-leb, lt-leb, leb-true, leb-false}
 use borrow.Table.Steps.{cases}
 use Rattle.base_queue.proofs.Lists.{take_size}
@@ -117,22 +117,17 @@ pub record_whole : (note : List ℕ) → 16 ≤ length note → record_of note �
 unfolding record_of call_bytes
 record_whole note h = take-append-le 16 note (replicate 16 0) h
 
-pub record_size : (note : List ℕ) → length (record_of note) ≡ 16
+-- its bytes as far as the note has them, and zeros behind
+pub record_padded : (note : List ℕ) (n : ℕ) → n ≡ min (length note) 16 → take n note ++ drop n (replicate 16 0) ≡ record_of note
 unfolding record_of
-record_size note = simp (length-take, length-append) (omega arith)
-
-padded : (n : ℕ) (s : List ℕ) (k : ℕ) → get_or {A = ℕ} (s ++ replicate n 0) k 0 ≡ get_or s k 0
-padded zero [] k = refl
-padded (suc n) [] zero = refl
-padded (suc n) [] (suc k) = padded n [] k
-padded n (b ∷ s) zero = refl
-padded n (b ∷ s) (suc k) = padded n s k
-
-pub record_byte : (note : List ℕ) (i : ℕ) → i < 16 → get_or (record_of note) i 0 ≡ get_or note i 0
-unfolding record_of
-record_byte note i h = get_or-take 16 (note ++ replicate 16 0) i 0 h ∙ padded 16 note i
-
--- one element more is as in t
-pub copied_next : (t l : List ℕ) (k v : ℕ) → k < length t → k < length l → take k l ≡ take k t → v ≡ get_or t k 0
-    → take (k + 1) (set l k v) ≡ take (k + 1) t
-copied_next t l k v a b e f = rw (add-one, take-suc-set l k v b, take-suc t k 0 a, e, f)
+record_padded note n e =
+    cases (leb 16 (length note))
+    (λ t. let h : 16 ≤ length note = leb-true 16 (length note) t in
+    let m : n ≡ 16 = omega arith in
+    rw (m, append-nil (take 16 note)) (sym (take-append-le 16 note (replicate 16 0) h)))
+    (λ t. let h : length note < 16 = leb-false 16 (length note) t in
+    let m : n ≡ length note = omega arith in
+    let k : length note + (16 - length note) ≡ 16 = omega arith in
+    rw (m, take-length note, drop-replicate {X = ℕ} (length note) 16 0)
+    (sym (rw k at (take-append-add note (replicate 16 0) (16 - length note))
+    ∙ ap (λ (z : List ℕ). note ++ z) (take-replicate {X = ℕ} (16 - length note) 16 0 (omega arith)))))

@@ -62,11 +62,9 @@ fn start_of(s: &[u8], n: usize) -> usize
     requires { n ≤ section_count }
     ensures { (result ≡ start_from s.now n 0) × (result ≤ 65537 * section_count) }
 {
-    let mut at: usize = 0;
-    let mut left = n;
-    while 0 < left {
-        at = at + 2 + number_at(s, at, 2) as usize;
-        left -= 1;
+    let mut at = 0;
+    for _ in 0..n {
+        at += 2 + number_at(s, at, 2) as usize;
     }
     at
 }
@@ -82,7 +80,7 @@ pub fn section_of(s: &[u8], i: usize) -> &[u8]
     let n = number_at(s, at, 2) as usize;
     let from = at + 2;
     let to = from + n;
-    part_of(s, Part { from: from, to: to })
+    part_of(s, Part { from, to })
 }
 
 // The bytes of a part, as far as the note has them.

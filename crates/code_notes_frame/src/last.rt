@@ -4,16 +4,13 @@ ghost use Rattle.spec_notes.specs.Undo.{last_length, has_last};
 ghost use Rattle.code_notes_frame.specs.Meant.{record_of};
 
 use crate::frames::LEAST;
-use base_bytes::bytes::{byte_at, number_at};
+use base_bytes::bytes::number_at;
 
 // What the last two of the used bytes say.
 pub fn last_length(log: &[u8], used: usize) -> usize
     ensures { result ≡ last_length log.now used }
 {
-    if used < 2 {
-        return number_at(log, 0, 2) as usize;
-    }
-    number_at(log, used - 2, 2) as usize
+    number_at(log, used.saturating_sub(2), 2) as usize
 }
 
 // Whether the used bytes end with a note: as long as the least, and all within them.
@@ -21,27 +18,15 @@ pub fn has_last(log: &[u8], used: usize) -> bool
     ensures { result ≡ has_last log.now used }
 {
     let n = last_length(log, used);
-    if used < 2 {
-        return false;
-    }
-    if log.len() < used {
-        return false;
-    }
-    if n < LEAST {
-        return false;
-    }
-    n <= used
+    2 <= used && used <= log.len() && LEAST <= n && n <= used
 }
 
 // The call record in front of a note; zeros where the note is shorter.
 pub fn call_bytes(note: &[u8]) -> [u8; 16]
     ensures { result ≡ record_of note.now }
 {
+    let n = note.len().min(16);
     let mut bytes = [0u8; 16];
-    let mut i: usize = 0;
-    while i < 16 {
-        bytes[i] = byte_at(note, i);
-        i += 1;
-    }
+    bytes[..n].copy_from_slice(&note[..n]);
     bytes
 }

@@ -31,12 +31,11 @@ fn put_message(
 {
     let before = message_rows::row_of(old, place);
     let told = message_rows::predicted(c, runner, new);
-    let fields = before.fields;
-    let predicted = told.fields;
-    put_entry(log, at, m, 0, 0, WIDTHS, fields, predicted)
+    put_entry(log, at, m, 0, 0, WIDTHS, before.fields, told.fields)
 }
 
 // The same, where it changed.
+#[tactic(auto, unfolding(base_bytes::specs::Pens::puts))]
 fn put_changed_message(
     log: &mut [u8],
     at: usize,
@@ -52,9 +51,10 @@ fn put_changed_message(
         (cond (changed_message old new) (message_noted m c runner old (old_place m (items posted)) new) []) }
 {
     if message_rows::same(old, new) {
-        return at;
+        at
+    } else {
+        put_message(log, at, m, c, runner, old, old_place(posted, m), new)
     }
-    put_message(log, at, m, c, runner, old, old_place(posted, m), new)
 }
 
 // The changed ones of `count` messages from `first` on. Ids past the last have no record that changes.
@@ -70,19 +70,19 @@ pub fn put_messages(
 ) -> usize
     ensures { pen log.new result ≡ puts (pen log.old at) (message_entries c runner old new first count) }
 {
-    let records = old.records;
-    let posted = old.posted;
+    let end = (first as usize + count as usize).min(sizes::MESSAGES);
     let mut p = at;
-    let mut i = first;
-    let mut left = count;
-    while 0 < left {
-        if sizes::MESSAGE_IDS <= i {
-            return p;
-        }
-        let j = i as usize;
-        p = put_changed_message(log, p, i, c, runner, records[j], posted, new[j]);
-        i += 1;
-        left -= 1;
+    for i in first as usize..end {
+        p = put_changed_message(
+            log,
+            p,
+            i as u8,
+            c,
+            runner,
+            old.records[i],
+            old.posted,
+            new[i],
+        );
     }
     p
 }

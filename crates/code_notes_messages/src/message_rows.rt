@@ -7,7 +7,7 @@ ghost use Rattle.spec_notes.specs.Predicted.{predicted_message};
 ghost use Rattle.spec_notes.specs.Touched.{same_message};
 
 use base_rows::rows::Row;
-use code_notes_entries::choices::{either, one_if, word};
+use code_notes_entries::choices::{either, word};
 use code_notes_entries::fields::same_rows;
 use spec_calls::call::Call;
 use spec_kernel::records::Message;
@@ -23,7 +23,7 @@ pub fn row_of(r: Message, place: u8) -> Row
 {
     Row {
         fields: [
-            one_if(r.live),
+            u32::from(r.live),
             r.owner as u32,
             r.sender as u32,
             r.kind as u32,
@@ -54,8 +54,7 @@ pub fn from_row(row: [u32; 8]) -> Message
 fn owner_before(c: Call, runner: u8, r: Message) -> u8
     ensures { result ≡ cond (is c 3) c.a (cond (is c 25) runner (cond (is c 26) r.sender r.owner)) }
 {
-    let kind = c.kind;
-    match kind {
+    match c.kind {
         3 => c.a,
         25 => runner,
         26 => r.sender,
@@ -66,8 +65,7 @@ fn owner_before(c: Call, runner: u8, r: Message) -> u8
 fn sender_before(c: Call, runner: u8, r: Message) -> u8
     ensures { result ≡ cond (is c 3) c.a (cond (is c 25) runner r.sender) }
 {
-    let kind = c.kind;
-    match kind {
+    match c.kind {
         3 => c.a,
         25 => runner,
         _ => r.sender,
@@ -75,6 +73,7 @@ fn sender_before(c: Call, runner: u8, r: Message) -> u8
 }
 
 // What the call, who runs after it, and the record after it tell of the record before.
+#[tactic(auto, unfolding(spec_notes::specs::Predicted::predicted_message))]
 pub fn predicted(c: Call, runner: u8, r: Message) -> Row
     ensures { result.fields ≡ predicted_message c runner r }
 {
@@ -97,6 +96,7 @@ pub fn predicted(c: Call, runner: u8, r: Message) -> Row
     }
 }
 
+#[tactic(auto, unfolding(spec_notes::specs::Touched::same_message))]
 pub fn same(r: Message, s: Message) -> bool
     ensures { result ≡ same_message r s }
 {

@@ -20,10 +20,11 @@ pub struct Levels {
 fn held_runner(old: Levels, after: u8) -> u8
     ensures { result ≡ held_runner old.unscheduled old.critical old.runner after }
 {
-    if (old.unscheduled as u16) + (old.critical as u16) == 0 {
-        return after;
+    if old.unscheduled == 0 && old.critical == 0 {
+        after
+    } else {
+        old.runner
     }
-    old.runner
 }
 
 // The values before the call, as far as those after it don't tell them.
@@ -35,7 +36,5 @@ pub fn put_scheduler(log: &mut [u8], at: usize, c: Call, old: Levels, new: Level
     let held = held_runner(old, new.runner);
     let before = scheduler_rows::row_of(old.unscheduled, old.critical, held);
     let told = scheduler_rows::predicted(c, new.unscheduled, new.critical, new.runner);
-    let fields = before.fields;
-    let predicted = told.fields;
-    put_unless_predicted(log, at, WIDTHS, fields, predicted)
+    put_unless_predicted(log, at, WIDTHS, before.fields, told.fields)
 }

@@ -34,26 +34,21 @@ pub fn row_of(unscheduled: u8, critical: u8, runner: u8) -> Row
 fn level_before(pushed: bool, popped: bool, level: u8) -> u32
     ensures { result ≡ cond pushed (level - 1) (cond popped (level + 1) level) }
 {
+    let level = u32::from(level);
     if pushed {
-        if level == 0 {
-            return 0;
-        }
-        return (level - 1) as u32;
+        level.saturating_sub(1)
+    } else if popped {
+        level + 1
+    } else {
+        level
     }
-    if popped {
-        return (level as u32) + 1;
-    }
-    level as u32
 }
 
 // A pop of the critical level, which the pend of a flag is too.
 fn pops_critical(c: Call) -> bool
     ensures { result ≡ is_one_of c (12 ∷ 33 ∷ []) }
 {
-    if c.kind == 12 {
-        return true;
-    }
-    c.kind == 33
+    matches!(c.kind, 12 | 33)
 }
 
 // What the call and the values after it tell of the values before.

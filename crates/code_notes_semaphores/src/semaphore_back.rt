@@ -18,25 +18,16 @@ fn record_in(c: Call, r: Semaphore, e: &[u8]) -> Semaphore
     ensures { result ≡ semaphore_from
         (row_in semaphore_widths (predicted_semaphore c r) (get_or e.now 0 0) (drop 1 e.now)) }
 {
-    let told = semaphore_rows::predicted(c, r);
-    let predicted = told.fields;
-    let row = row_in(e, WIDTHS, predicted);
-    let fields = row.fields;
-    semaphore_rows::from_row(fields)
+    let predicted = semaphore_rows::predicted(c, r);
+    let row = row_in(e, WIDTHS, predicted.fields);
+    semaphore_rows::from_row(row.fields)
 }
 
 // Every semaphore as it was where the call did no more than age it.
 fn younger_all(c: Call, new: [Semaphore; SEMAPHORES]) -> [Semaphore; SEMAPHORES]
     ensures { result ≡ map (younger_semaphore c) new }
 {
-    let mut next = new;
-    let mut i: usize = 0;
-    while i < SEMAPHORES {
-        let r = new[i];
-        next[i] = semaphore_rows::younger(c, r);
-        i += 1;
-    }
-    next
+    new.map(|r| semaphore_rows::younger(c, r))
 }
 
 // Entry by entry.
@@ -45,13 +36,13 @@ pub fn semaphores_before(c: Call, new: [Semaphore; SEMAPHORES], s: &[u8]) -> [Se
 {
     let mut a = younger_all(c, new);
     let mut p: usize = 0;
+    // No `for`: how long an entry is, and so where the next one begins, is known once it is read.
     while p < s.len() {
         let e = &s[p..];
         p += size_in(e, WIDTHS);
         let i = id_in(e) as usize;
         if i < SEMAPHORES {
-            let r = new[i];
-            a[i] = record_in(c, r, e);
+            a[i] = record_in(c, new[i], e);
         }
     }
     a

@@ -17,12 +17,11 @@ fn put_semaphore(log: &mut [u8], at: usize, i: u8, c: Call, old: Semaphore, new:
 {
     let before = semaphore_rows::row_of(old);
     let told = semaphore_rows::predicted(c, new);
-    let fields = before.fields;
-    let predicted = told.fields;
-    put_entry(log, at, i, 0, 0, WIDTHS, fields, predicted)
+    put_entry(log, at, i, 0, 0, WIDTHS, before.fields, told.fields)
 }
 
 // The same, where more than ageing changed it.
+#[tactic(auto, unfolding(base_bytes::specs::Pens::puts))]
 fn put_changed_semaphore(
     log: &mut [u8],
     at: usize,
@@ -35,9 +34,10 @@ fn put_changed_semaphore(
         ≡ puts (pen log.old at) (cond (changed_semaphore c old new) (semaphore_noted i c old new) []) }
 {
     if semaphore_rows::same(old, semaphore_rows::younger(c, new)) {
-        return at;
+        at
+    } else {
+        put_semaphore(log, at, i, c, old, new)
     }
-    put_semaphore(log, at, i, c, old, new)
 }
 
 // The changed ones of `count` semaphores from `first` on. Ids past the last have no record that changes.
@@ -52,17 +52,10 @@ pub fn put_semaphores(
 ) -> usize
     ensures { pen log.new result ≡ puts (pen log.old at) (semaphore_entries c old new first count) }
 {
+    let end = (first as usize + count as usize).min(sizes::SEMAPHORES);
     let mut p = at;
-    let mut i = first;
-    let mut left = count;
-    while 0 < left {
-        if sizes::SEMAPHORE_IDS <= i {
-            return p;
-        }
-        let j = i as usize;
-        p = put_changed_semaphore(log, p, i, c, old[j], new[j]);
-        i += 1;
-        left -= 1;
+    for i in first as usize..end {
+        p = put_changed_semaphore(log, p, i as u8, c, old[i], new[i]);
     }
     p
 }

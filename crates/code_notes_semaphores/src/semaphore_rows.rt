@@ -6,7 +6,7 @@ ghost use Rattle.spec_notes.specs.Predicted.{count_before, predicted_semaphore};
 ghost use Rattle.spec_notes.specs.Touched.{ticks_before_pulse, count_before_pulse, younger_semaphore, same_semaphore};
 
 use base_rows::rows::Row;
-use code_notes_entries::choices::{either, one_if, word};
+use code_notes_entries::choices::{either, word};
 use code_notes_entries::fields::same_rows;
 use spec_calls::call::Call;
 use spec_kernel::records::Semaphore;
@@ -22,7 +22,7 @@ pub fn row_of(r: Semaphore) -> Row
 {
     Row {
         fields: [
-            one_if(r.live),
+            u32::from(r.live),
             r.count as u32,
             r.maximum as u32,
             r.ticks,
@@ -47,34 +47,20 @@ pub fn from_row(row: [u32; 8]) -> Semaphore
     }
 }
 
-fn one_less(n: u16) -> u16
-    ensures { result ≡ n - 1 }
-{
-    if n == 0 { 0 } else { n - 1 }
-}
-
 // One more before a pend that passed, one less before a post that was counted; a tick's post is told already, but for a full one.
 fn count_before(c: Call, r: Semaphore) -> u16
     ensures { result ≡ count_before c r }
 {
-    let kind = c.kind;
-    match kind {
-        1 => if r.count == r.maximum {
-            one_less(r.count)
-        } else {
-            r.count
-        },
-        18 => if r.count < 65535 {
-            r.count + 1
-        } else {
-            r.count
-        },
-        19 | 28 => one_less(r.count),
+    match c.kind {
+        1 if r.count == r.maximum => r.count.saturating_sub(1),
+        18 => r.count.saturating_add(1),
+        19 | 28 => r.count.saturating_sub(1),
         _ => r.count,
     }
 }
 
 // What the call and the record after it tell of the record before.
+#[tactic(auto, unfolding(spec_notes::specs::Predicted::predicted_semaphore))]
 pub fn predicted(c: Call, r: Semaphore) -> Row
     ensures { result.fields ≡ predicted_semaphore c r }
 {
@@ -102,12 +88,9 @@ fn ticks_before_pulse(r: Semaphore) -> u32
     ensures { result ≡ ticks_before_pulse r }
 {
     if r.ticks == r.period {
-        return 1;
-    }
-    if r.ticks < 4294967295 {
-        r.ticks + 1
+        1
     } else {
-        r.ticks
+        r.ticks.saturating_add(1)
     }
 }
 
@@ -115,23 +98,19 @@ fn ticks_before_pulse(r: Semaphore) -> u32
 fn count_before_pulse(r: Semaphore) -> u16
     ensures { result ≡ count_before_pulse r }
 {
-    if r.ticks != r.period {
-        return r.count;
+    if r.ticks == r.period && r.count != r.maximum {
+        r.count.saturating_sub(1)
+    } else {
+        r.count
     }
-    if r.count == r.maximum {
-        return r.count;
-    }
-    one_less(r.count)
 }
 
 // The record before, where the call did no more than age it.
+#[tactic(auto, unfolding(spec_notes::specs::Touched::younger_semaphore))]
 pub fn younger(c: Call, r: Semaphore) -> Semaphore
     ensures { result ≡ younger_semaphore c r }
 {
-    if c.kind != 1 {
-        return r;
-    }
-    if r.period == 0 {
+    if c.kind != 1 || r.period == 0 {
         return r;
     }
     Semaphore {
@@ -141,6 +120,7 @@ pub fn younger(c: Call, r: Semaphore) -> Semaphore
     }
 }
 
+#[tactic(auto, unfolding(spec_notes::specs::Touched::same_semaphore))]
 pub fn same(r: Semaphore, s: Semaphore) -> bool
     ensures { result ≡ same_semaphore r s }
 {

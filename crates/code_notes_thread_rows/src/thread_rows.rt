@@ -32,12 +32,9 @@ fn data_of(c: Condition) -> u16
     ensures { result ≡ condition_data c }
 {
     match c {
-        Condition::Ready => 0,
-        Condition::Asleep => 0,
-        Condition::ForSemaphore(i) => i as u16,
-        Condition::ForEvent(i) => i as u16,
+        Condition::Ready | Condition::Asleep => 0,
+        Condition::ForSemaphore(i) | Condition::ForEvent(i) | Condition::ForFlag(i) => i as u16,
         Condition::ForMessage(mask) => mask,
-        Condition::ForFlag(i) => i as u16,
     }
 }
 
@@ -66,19 +63,18 @@ fn wake_code(w: Wake) -> u8
 pub fn code_of(r: Thread) -> u8
     ensures { result ≡ thread_code r }
 {
-    if !r.live {
-        return 0;
+    if r.live {
+        condition_code(r.condition)
+    } else {
+        0
     }
-    let c = r.condition;
-    condition_code(c)
 }
 
 // The same, and of a thread that isn't live too what its condition is.
 fn full_code(r: Thread) -> u8
     ensures { result ≡ full_code r }
 {
-    let c = r.condition;
-    let code = condition_code(c);
+    let code = condition_code(r.condition);
     if r.live { code } else { 6 + code }
 }
 
@@ -86,10 +82,8 @@ fn full_code(r: Thread) -> u8
 pub fn widths_of(code: u8) -> [u8; 8]
     ensures { result ≡ thread_widths code }
 {
-    if code == MASKED {
-        return [1, 1, 2, 4, 1, 1, 1, 1];
-    }
-    [1, 1, 1, 4, 1, 1, 1, 1]
+    let data = if code == MASKED { 2 } else { 1 };
+    [1, 1, data, 4, 1, 1, 1, 1]
 }
 
 // The code of a thread that waits for a message.
@@ -99,24 +93,17 @@ const MASKED: u8 = 5;
 pub const LONGEST: usize = 15;
 
 // The code of a touched thread before: at a tick by its wake reason, else by the kind.
+#[tactic(auto, unfolding(spec_notes::specs::Predicted::predicted_code))]
 pub fn predicted_code(c: Call, r: Thread) -> u8
     ensures { result ≡ predicted_code c r }
 {
-    let kind = c.kind;
-    let wake = r.wake;
-    match kind {
-        1 => wake_code(wake) + 1,
+    match c.kind {
+        1 => wake_code(r.wake) + 1,
         2 => 0,
-        4 => code_of(r),
-        5 => code_of(r),
-        19 => 3,
-        20 => 4,
-        22 => 4,
-        23 => 4,
+        4 | 5 => code_of(r),
+        19 | 28 => 3,
+        20 | 22 | 23 | 29 | 30 => 4,
         26 => 5,
-        28 => 3,
-        29 => 4,
-        30 => 4,
         34 => 6,
         _ => 1,
     }
@@ -125,15 +112,13 @@ pub fn predicted_code(c: Call, r: Thread) -> u8
 pub fn row_of(r: Thread, place: u8, due: u8) -> Row
     ensures { result.fields ≡ thread_row r place due }
 {
-    let c = r.condition;
-    let w = r.wake;
     Row {
         fields: [
             r.priority as u32,
             r.first as u32,
-            data_of(c) as u32,
+            data_of(r.condition) as u32,
             r.ticks,
-            wake_code(w) as u32,
+            wake_code(r.wake) as u32,
             r.reply as u32,
             place as u32,
             due as u32,
@@ -141,6 +126,7 @@ pub fn row_of(r: Thread, place: u8, due: u8) -> Row
     }
 }
 
+#[tactic(auto, unfolding(spec_notes::specs::Rows::condition_from))]
 fn condition_from(code: u8, what: u16) -> Condition
     ensures { result ≡ condition_from code what }
 {
@@ -154,6 +140,7 @@ fn condition_from(code: u8, what: u16) -> Condition
     }
 }
 
+#[tactic(auto, unfolding(spec_notes::specs::Rows::wake_from))]
 fn wake_from(code: u8) -> Wake
     ensures { result ≡ wake_from code }
 {
@@ -186,10 +173,8 @@ pub fn from_row(code: u8, row: [u32; 8]) -> Thread
 fn data_now(condition: Condition, code: u8) -> u16
     ensures { result ≡ data_now code condition }
 {
-    if code == MASKED {
-        return data_of(condition);
-    }
-    data_of(condition) % 256
+    let data = data_of(condition);
+    if code == MASKED { data } else { data % 256 }
 }
 
 // What a blocked thread waited for: after a post, the semaphore or flag of the call.
@@ -199,8 +184,7 @@ fn data_before(c: Call, condition: Condition, code: u8) -> u16
     if code <= 2 {
         return 0;
     }
-    let kind = c.kind;
-    match kind {
+    match c.kind {
         19 | 28 | 34 => c.a as u16,
         _ => data_now(condition, code),
     }
@@ -211,30 +195,26 @@ fn ticks_before(c: Call, ticks: u32, code: u8) -> u32
     ensures { result ≡ cond (was_blocked code) (cond (is c 1) 1 ticks) 0 }
 {
     if code <= 1 {
-        return 0;
+        0
+    } else if c.kind == 1 {
+        1
+    } else {
+        ticks
     }
-    if c.kind == 1 { 1 } else { ticks }
 }
 
 // Whether a blocked thread is ready now.
 fn was_woken(r: Thread, code: u8) -> bool
     ensures { result ≡ (was_blocked code && is_ready r) }
 {
-    if code <= 1 {
-        return false;
-    }
-    conditions::is_ready(r)
+    1 < code && conditions::is_ready(r)
 }
 
 // Whether a ready thread sleeps or waits now.
 fn has_blocked(r: Thread, code: u8) -> bool
     ensures { result ≡ blocks code r }
 {
-    if code != 1 {
-        return false;
-    }
-    let c = r.condition;
-    !conditions::ready_for(c)
+    code == 1 && !conditions::ready_for(r.condition)
 }
 
 // A thread that was woken had no reason; one that blocks had been met.
@@ -242,12 +222,12 @@ fn wake_before(woken: bool, blocked: bool, w: Wake) -> u8
     ensures { result ≡ cond woken 0 (cond blocked 1 (wake_code w)) }
 {
     if woken {
-        return 0;
+        0
+    } else if blocked {
+        1
+    } else {
+        wake_code(w)
     }
-    if blocked {
-        return 1;
-    }
-    wake_code(w)
 }
 
 // A thread that wasn't live had no priority.
@@ -262,12 +242,12 @@ fn reply_before(woken: bool, r: Thread, code: u8) -> u8
     ensures { result ≡ cond (eqb code 0) 0 (cond (not r.live || woken) 255 r.reply) }
 {
     if code == 0 {
-        return 0;
+        0
+    } else if !r.live || woken {
+        255
+    } else {
+        r.reply
     }
-    if !r.live {
-        return 255;
-    }
-    if woken { 255 } else { r.reply }
 }
 
 // A thread that stood in a list stood first, and who waited for a flag that is posted behind the poster.
@@ -278,10 +258,7 @@ fn place_before(c: Call, code: u8) -> u8
         return 1;
     }
     match code {
-        1 => 0,
-        3 => 0,
-        4 => 0,
-        6 => 0,
+        1 | 3 | 4 | 6 => 0,
         _ => 255,
     }
 }
@@ -290,30 +267,27 @@ fn place_before(c: Call, code: u8) -> u8
 fn due_before(c: Call, code: u8) -> u8
     ensures { result ≡ cond (eqb code 2 || (is c 1 && was_blocked code)) 0 255 }
 {
-    if code == 2 {
-        return 0;
+    if code == 2 || (c.kind == 1 && 1 < code) {
+        0
+    } else {
+        255
     }
-    if c.kind != 1 {
-        return 255;
-    }
-    if code <= 1 { 255 } else { 0 }
 }
 
 // What can be told of the row before, of the record after and the code before.
+#[tactic(auto, unfolding(spec_notes::specs::Predicted::predicted_thread))]
 pub fn predicted(c: Call, r: Thread, code: u8) -> Row
     ensures { result.fields ≡ predicted_thread c r code }
 {
-    let condition = r.condition;
-    let wake = r.wake;
     let woken = was_woken(r, code);
     let blocked = has_blocked(r, code);
     Row {
         fields: [
             priority_before(code, r.priority) as u32,
             priority_before(code, r.first) as u32,
-            data_before(c, condition, code) as u32,
+            data_before(c, r.condition, code) as u32,
             ticks_before(c, r.ticks, code),
-            wake_before(woken, blocked, wake) as u32,
+            wake_before(woken, blocked, r.wake) as u32,
             reply_before(woken, r, code) as u32,
             place_before(c, code) as u32,
             due_before(c, code) as u32,
@@ -325,16 +299,15 @@ pub fn predicted(c: Call, r: Thread, code: u8) -> Row
 fn ticks_younger(c: Call, ticks: u32) -> u32
     ensures { result ≡ cond (is c 1 && ltb 0 ticks) (one_tick_more ticks) ticks }
 {
-    if c.kind != 1 {
-        return ticks;
+    if c.kind == 1 && 0 < ticks {
+        ticks.saturating_add(1)
+    } else {
+        ticks
     }
-    if ticks == 0 {
-        return ticks;
-    }
-    if ticks < 4294967295 { ticks + 1 } else { ticks }
 }
 
 // The record before, of the record after, where the call did not touch it.
+#[tactic(auto, unfolding(spec_notes::specs::Touched::younger_thread))]
 pub fn younger(c: Call, r: Thread) -> Thread
     ensures { result ≡ younger_thread c r }
 {
@@ -345,30 +318,15 @@ pub fn younger(c: Call, r: Thread) -> Thread
 }
 
 // Field by field, and not by rows: at a tick every thread is compared.
+#[tactic(auto, unfolding(spec_notes::specs::Touched::same_thread))]
 pub fn same(r: Thread, s: Thread) -> bool
     ensures { result ≡ same_thread r s }
 {
-    if full_code(r) != full_code(s) {
-        return false;
-    }
-    if r.priority != s.priority {
-        return false;
-    }
-    if r.first != s.first {
-        return false;
-    }
-    let condition = r.condition;
-    let other = s.condition;
-    if data_of(condition) != data_of(other) {
-        return false;
-    }
-    if r.ticks != s.ticks {
-        return false;
-    }
-    let wake = r.wake;
-    let reason = s.wake;
-    if wake_code(wake) != wake_code(reason) {
-        return false;
-    }
-    r.reply == s.reply
+    full_code(r) == full_code(s)
+        && r.priority == s.priority
+        && r.first == s.first
+        && data_of(r.condition) == data_of(s.condition)
+        && r.ticks == s.ticks
+        && wake_code(r.wake) == wake_code(s.wake)
+        && r.reply == s.reply
 }

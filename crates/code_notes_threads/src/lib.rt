@@ -1,6 +1,5 @@
 // The threads' section of a note: written, and read back.
 #![tactic(auto)]
 
-pub mod marks;
 pub mod thread_back;
 pub mod thread_notes;

@@ -6,10 +6,10 @@ ghost use Rattle.spec_notes.specs.Rows.{thread_widths};
 ghost use Rattle.spec_notes.specs.Back.{code_read, thread_read, threads_before};
 ghost use Rattle.code_notes_threads.specs.ReadThreads.{meant_threads, with_marks};
 
-use crate::marks::marked;
 use base_queue::CAPACITY;
 use base_rows::entries::{code_in, id_in, row_in, size_in};
 use code_kernel_find::by_id;
+use code_notes_entries::old_places::store;
 use code_notes_thread_rows::thread_rows;
 use spec_calls::call::Call;
 use spec_kernel::records::Thread;
@@ -28,13 +28,7 @@ pub struct Threading {
 fn all_younger(c: Call, new: [Thread; sizes::THREADS]) -> [Thread; sizes::THREADS]
     ensures { result ≡ map (younger_thread c) new }
 {
-    let mut old = new;
-    let mut i: usize = 0;
-    while i < sizes::THREADS {
-        old[i] = thread_rows::younger(c, new[i]);
-        i += 1;
-    }
-    old
+    new.map(|r| thread_rows::younger(c, r))
 }
 
 // Thread t has the record r and is touched; it stood at `place` of `places` and at `due` of the time queue.
@@ -42,16 +36,10 @@ fn put_record(a: Threading, t: u8, r: Thread, place: u32, due: u32) -> Threading
     ensures { meant_threads result ≡ with_marks t r place due (meant_threads a) }
 {
     let mut next = a;
-    let out = a.out;
-    let at = a.at;
-    let time = a.due;
-    next.out = marked(out, t as u32, 1);
-    next.at = marked(at, place, t);
-    next.due = marked(time, due, t);
-    if t < sizes::THREAD_IDS {
-        let i = t as usize;
-        next.threads[i] = r;
-    }
+    store(&mut next.threads, t as usize, r);
+    store(&mut next.out, t as usize, 1);
+    store(&mut next.at, place as usize, t);
+    store(&mut next.due, due as usize, t);
     next
 }
 
@@ -71,11 +59,9 @@ fn entry_back(c: Call, new: [Thread; sizes::THREADS], e: &[u8], a: Threading) ->
     let code = code_back(c, new, e);
     let after = by_id::thread_at(new, t as u16);
     let guess = thread_rows::predicted(c, after, code);
-    let guessed = guess.fields;
-    let row = row_in(e, thread_rows::widths_of(code), guessed);
-    let fields = row.fields;
-    let r = thread_rows::from_row(code, fields);
-    put_record(a, t, r, fields[6], fields[7])
+    let row = row_in(e, thread_rows::widths_of(code), guess.fields);
+    let r = thread_rows::from_row(code, row.fields);
+    put_record(a, t, r, row.fields[6], row.fields[7])
 }
 
 // How many bytes it has; no more than there are.
@@ -97,6 +83,7 @@ pub fn threads_before(c: Call, new: [Thread; sizes::THREADS], s: &[u8]) -> Threa
         due: [255u8; CAPACITY],
     };
     let mut p: usize = 0;
+    // No `for`: how long an entry is, and so where the next one begins, is known once it is read.
     while p < s.len() {
         let e = &s[p..];
         a = entry_back(c, new, e, a);

@@ -1,6 +1,7 @@
 // The threads' section: who is touched by a call, and the entry of each.
-ghost use Rattle.std.specs.Prelude.{◌≡◌};
+ghost use Rattle.std.specs.Prelude.{◌≡◌, get_or};
 ghost use Rattle.base_bytes.specs.Pens.{pen, puts};
+ghost use Rattle.spec_kernel.specs.Records.{no_thread};
 ghost use Rattle.spec_notes.specs.Touched.{moves_in_place, changed_thread};
 ghost use Rattle.spec_notes.specs.Sections.{thread_noted, thread_entries};
 ghost use Rattle.code_notes_threads.specs.ThreadEntries.{entry_in};
@@ -19,11 +20,9 @@ use spec_moves::parts::Threads;
 fn moves_in_place(runner: u8, c: Call, t: u8) -> bool
     ensures { result ≡ moves_in_place runner c t }
 {
-    let kind = c.kind;
-    match kind {
+    match c.kind {
         6 => t == runner,
-        4 => t == c.a,
-        5 => t == c.a,
+        4 | 5 => t == c.a,
         _ => false,
     }
 }
@@ -32,10 +31,7 @@ fn moves_in_place(runner: u8, c: Call, t: u8) -> bool
 fn is_touched(t: u8, runner: u8, c: Call, old: Thread, new: Thread) -> bool
     ensures { result ≡ changed_thread t runner c old new }
 {
-    if !thread_rows::same(old, thread_rows::younger(c, new)) {
-        return true;
-    }
-    moves_in_place(runner, c, t)
+    !thread_rows::same(old, thread_rows::younger(c, new)) || moves_in_place(runner, c, t)
 }
 
 // The entry of thread t: its id, and what isn't as predicted of its code, its record and its two old places.
@@ -54,8 +50,6 @@ fn put_thread(
     let code = thread_rows::code_of(old);
     let row = thread_rows::row_of(old, place, due);
     let guess = thread_rows::predicted(c, new, code);
-    let fields = row.fields;
-    let guessed = guess.fields;
     let told = thread_rows::predicted_code(c, new);
     put_entry(
         log,
@@ -64,38 +58,46 @@ fn put_thread(
         code,
         told,
         thread_rows::widths_of(code),
-        fields,
-        guessed,
+        row.fields,
+        guess.fields,
     )
 }
 
 // The entry of an id with its two records, where the call touched it. An id above 255 is nobody's.
+#[tactic(auto, unfolding(base_bytes::specs::Pens::puts, crate::specs::ThreadEntries::entry_in))]
 fn put_touched(
     log: &mut [u8],
     at: usize,
     c: Call,
     runner: u8,
-    places: Queue,
-    time: Queue,
+    places: &Queue,
+    time: &Queue,
     before: Thread,
     after: Thread,
     t: u32,
 ) -> usize
-    ensures { pen log.new result ≡ puts (pen log.old at) (entry_in c runner places time before after t) }
+    ensures { pen log.new result ≡ puts (pen log.old at) (entry_in c runner places.now time.now before after t) }
 {
-    if 255 < t {
+    let Ok(id) = u8::try_from(t) else {
         return at;
-    }
-    let id = t as u8;
+    };
     if !is_touched(id, runner, c, before, after) {
         return at;
     }
-    let place = old_place(places, id);
-    let due = old_place(time, id);
+    let place = old_place(*places, id);
+    let due = old_place(*time, id);
     put_thread(log, at, id, c, before, place, due, after)
 }
 
-const IDS: u32 = THREADS as u32;
+// The record of an id; past the last it is no thread's.
+fn record_at(records: &[Thread], t: u32) -> Thread
+    ensures { result ≡ get_or records.now t no_thread }
+{
+    match records.get(t as usize) {
+        Some(r) => *r,
+        None => no_thread(),
+    }
+}
 
 // The entries of so many ids from the first on. The records are read in place: a call that takes the array copies it for every id.
 pub fn put_threads(
@@ -110,23 +112,12 @@ pub fn put_threads(
 ) -> usize
     ensures { pen log.new result ≡ puts (pen log.old at) (thread_entries c runner old new first count) }
 {
-    let places = old.places;
-    let time = old.time;
-    let nobody = no_thread();
+    let start = first as u32;
     let mut p = at;
-    let mut t = first as u32;
-    let mut left = count;
-    while 0 < left {
-        let mut before = nobody;
-        let mut after = nobody;
-        if t < IDS {
-            let i = t as usize;
-            before = old.records[i];
-            after = new[i];
-        }
-        p = put_touched(log, p, c, runner, places, time, before, after, t);
-        t += 1;
-        left -= 1;
+    for t in start..start + count as u32 {
+        let before = record_at(&old.records, t);
+        let after = record_at(&new, t);
+        p = put_touched(log, p, c, runner, &old.places, &old.time, before, after, t);
     }
     p
 }

@@ -14,58 +14,38 @@ use spec_kernel::sizes;
 fn no_wake(w: Wake) -> bool
     ensures { result ≡ no_wake w }
 {
-    match w {
-        Wake::None => true,
-        Wake::Met => false,
-        Wake::TimedOut(_) => false,
-    }
+    matches!(w, Wake::None)
 }
 
 // Every field is 0; a ready condition and no wake reason are 0 too.
 fn is_no_thread(r: Thread) -> bool
     ensures { result ≡ is_no_thread r }
 {
-    if r.priority != 0 {
-        return false;
-    }
-    if r.first != 0 {
-        return false;
-    }
-    let c = r.condition;
-    if !code_kernel::conditions::ready_for(c) {
-        return false;
-    }
-    if r.ticks != 0 {
-        return false;
-    }
-    let w = r.wake;
-    if !no_wake(w) {
-        return false;
-    }
-    r.reply == 0
+    r.priority == 0
+        && r.first == 0
+        && code_kernel::conditions::ready_for(r.condition)
+        && r.ticks == 0
+        && no_wake(r.wake)
+        && r.reply == 0
 }
 
 fn is_no_semaphore(r: Semaphore) -> bool
     ensures { result ≡ is_no_semaphore r }
 {
-    (r.count as u32) | (r.maximum as u32) | r.ticks | r.period == 0
+    r.count == 0 && r.maximum == 0 && r.ticks == 0 && r.period == 0
 }
 
 fn is_no_message(r: Message) -> bool
     ensures { result ≡ is_no_message r }
 {
-    (r.owner as u32) | (r.sender as u32) | (r.kind as u32) | r.size | r.address | (r.channel as u32)
-        == 0
+    r.owner == 0 && r.sender == 0 && r.kind == 0 && r.size == 0 && r.address == 0 && r.channel == 0
 }
 
 // Whether a semaphore may have waiters: it is live and its count is 0.
 pub fn may_have_waiters(r: Semaphore) -> bool
     ensures { result ≡ (r.live && eqb r.count 0) }
 {
-    if !r.live {
-        return false;
-    }
-    r.count == 0
+    r.live && r.count == 0
 }
 
 // `waited` has the semaphores, and `untrue` the events, that may have waiters; `flags` those that are live.
@@ -77,12 +57,7 @@ fn condition_kept(waited: u64, untrue: u64, flags: u16, ticks: u32, c: Condition
         Condition::Asleep => 0 < ticks,
         Condition::ForSemaphore(i) => sets::has(waited, i),
         Condition::ForEvent(i) => sets::has(untrue, i),
-        Condition::ForMessage(mask) => {
-            if mask == 0 {
-                return false;
-            }
-            mask <= 32767
-        }
+        Condition::ForMessage(mask) => 0 < mask && mask <= 32767,
         Condition::ForFlag(i) => is_flag(flags, i),
     }
 }
@@ -90,25 +65,12 @@ fn condition_kept(waited: u64, untrue: u64, flags: u16, ticks: u32, c: Condition
 fn live_thread_kept(waited: u64, untrue: u64, flags: u16, r: Thread) -> bool
     ensures { result ≡ live_thread_by waited untrue flags r }
 {
-    if r.priority == 0 {
-        return false;
-    }
-    if sizes::PRIORITIES < r.priority {
-        return false;
-    }
-    if r.first == 0 {
-        return false;
-    }
-    if sizes::PRIORITIES < r.first {
-        return false;
-    }
-    if sizes::MESSAGE_IDS <= r.reply {
-        if r.reply != 255 {
-            return false;
-        }
-    }
-    let c = r.condition;
-    condition_kept(waited, untrue, flags, r.ticks, c)
+    0 < r.priority
+        && r.priority <= sizes::PRIORITIES
+        && 0 < r.first
+        && r.first <= sizes::PRIORITIES
+        && (r.reply < sizes::MESSAGE_IDS || r.reply == 255)
+        && condition_kept(waited, untrue, flags, r.ticks, r.condition)
 }
 
 pub fn thread_kept(waited: u64, untrue: u64, flags: u16, r: Thread) -> bool
@@ -124,16 +86,7 @@ pub fn thread_kept(waited: u64, untrue: u64, flags: u16, r: Thread) -> bool
 fn live_semaphore_kept(r: Semaphore) -> bool
     ensures { result ≡ live_semaphore_kept r }
 {
-    if r.maximum == 0 {
-        return false;
-    }
-    if r.maximum < r.count {
-        return false;
-    }
-    if r.period == 0 {
-        return r.ticks == 0;
-    }
-    0 < r.ticks
+    0 < r.maximum && r.count <= r.maximum && (r.ticks == 0) == (r.period == 0)
 }
 
 pub fn semaphore_kept(r: Semaphore) -> bool
@@ -150,20 +103,11 @@ pub fn semaphore_kept(r: Semaphore) -> bool
 fn live_message_kept(owner: Thread, r: Message) -> bool
     ensures { result ≡ live_message_by owner r }
 {
-    if sizes::THREAD_IDS <= r.owner {
-        return false;
-    }
-    if !owner.live {
-        return false;
-    }
-    if sizes::THREAD_IDS <= r.sender {
-        return false;
-    }
-    if sizes::CHANNELS < r.channel {
-        return false;
-    }
-    let c = owner.condition;
-    !code_kernel::conditions::awaits(c, r.channel)
+    r.owner < sizes::THREAD_IDS
+        && owner.live
+        && r.sender < sizes::THREAD_IDS
+        && r.channel <= sizes::CHANNELS
+        && !code_kernel::conditions::awaits(owner.condition, r.channel)
 }
 
 pub fn message_kept(owner: Thread, r: Message) -> bool

@@ -1,11 +1,8 @@
--- `base_bits::bit` meets its contract. The shift brings bit i down to the lowest digit.
+-- `base_bits::bit` meets its contract. A word of 32 bits has none above 31.
 -- Assumes nothing.
-use mathlib.Core.Path.{sym}
-use Rattle.base_bits.proofs.Digits.{bit_low, bit_high}
+use mathlib.Core.Path.{sym, ◌∙◌}
+use Rattle.base_bits.proofs.Laws.{word_has}
 use Rattle.base_bits.proofs.bit.Goals as goal
 
-pub returns-then-i-lt32 : goal.returns-then-i-lt32
-returns-then-i-lt32 c = sym (bit_low _ _ c.if-i-lt32.true)
-
-pub returns-else-i-lt32 : goal.returns-else-i-lt32
-returns-else-i-lt32 c = sym (bit_high _ _ c.if-i-lt32.false)
+pub returns : goal.returns
+returns c = c.has.ensures ∙ rw c.from.ensures (sym (word_has _ _ c.ranges.word.fits))

@@ -1,16 +1,12 @@
--- `base_bits::without_bit` meets its contract. What is taken away is the bit where it is set, and nothing where it is clear.
+-- `base_bits::without_bit` meets its contract. What is left is the word with the bit clear.
 -- Assumes nothing.
 use mathlib.Core.Path.{sym}
-use lib.Bits.{and_le_l}
 use Rattle.base_bits.proofs.Digits.{bit_high}
 use Rattle.base_bits.proofs.Laws.{one_shifted, without_and, without_clear}
 use Rattle.base_bits.proofs.without_bit.Goals as goal
 
-pub overflow_sub-result : goal.overflow_sub-result
-overflow_sub-result c = and_le_l c.args.word _
-
 pub returns-then-i-lt32 : goal.returns-then-i-lt32
-returns-then-i-lt32 c = rw (one_shifted 32 _ c.if-i-lt32.true) (sym (without_and _ _ c.if-i-lt32.true))
+returns-then-i-lt32 c = rw (one_shifted 32 _ c.if-i-lt32.true) (sym (without_and _ _ c.if-i-lt32.true c.ranges.word.fits))
 
 pub returns-else-i-lt32 : goal.returns-else-i-lt32
 returns-else-i-lt32 c = sym (without_clear _ _ (bit_high _ _ c.if-i-lt32.false))

@@ -11,14 +11,14 @@ unfolding decimal
 loop-i-init c =
     let long : length c.args.digits.now ≡ 20 = search rules in
     let past : length c.args.digits.now ≤ 20 = omega arith in
-    (omega arith, long, rw (drop_of_length-le c.args.digits.now past, append-nil))
+    (long, rw (drop_of_length-le c.args.digits.now past, append-nil))
 
 -- the digits where the last one is written
 written : (c : Then-rest-lt10)
     → drop (c.loop-i.i - 1) (set c.loop-i.digits (c.loop-i.i - 1) (48 + c.loop-i.rest % 10)) ≡ decimal c.args.n
 written c =
     let h = c.loop-i.invariant in
-    last_written c.loop-i.i c.loop-i.rest c.loop-i.digits c.loop-i-test.true (omega (arith, h.0, h.1)) c.if-rest-lt10.true ∙ h.2
+    last_written c.loop-i.i c.loop-i.rest c.loop-i.digits c.loop-i-test.true (omega arith) c.if-rest-lt10.true ∙ h.1
 
 pub returns-then-rest-lt10-clause-digits : goal.returns-then-rest-lt10-clause-digits
 returns-then-rest-lt10-clause-digits c = written c
@@ -31,11 +31,8 @@ returns-then-rest-lt10-clause-whole c =
 pub loop-i-preserved : goal.loop-i-preserved
 loop-i-preserved c =
     let h = c.loop-i.invariant in
-    let within : c.loop-i.i ≤ length c.loop-i.digits = omega (arith, h.0, h.1) in (
-      search rules,
-      search rules,
-      more_written c.loop-i.i c.loop-i.rest c.loop-i.digits c.loop-i-test.true within c.if-rest-lt10.false ∙ h.2,
-    )
+    let within : c.loop-i.i ≤ length c.loop-i.digits = omega arith in
+    (search rules, more_written c.loop-i.i c.loop-i.rest c.loop-i.digits c.loop-i-test.true within c.if-rest-lt10.false ∙ h.1)
 
 -- no room is left
 through : (c : After-loop-i) → c.loop-i.digits ≡ decimal c.args.n
@@ -43,7 +40,7 @@ unfolding decimal_in
 through c =
     let none : c.loop-i.i ≡ 0 = omega arith in
     let P : ℕ → Type 0 = λ i. decimal_in i c.loop-i.rest ++ drop i c.loop-i.digits ≡ decimal c.args.n in
-    subst P none c.loop-i.invariant.2
+    subst P none c.loop-i.invariant.1
 
 pub returns-clause-digits : goal.returns-clause-digits
 returns-clause-digits c = through c

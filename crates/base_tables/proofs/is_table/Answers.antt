@@ -3,10 +3,10 @@ use mathlib.Core.Path.{sym, ◌∙◌}
 use Rattle.base_tables.specs.Taken.{is_table}
 use Rattle.base_tables.proofs.is_table.Goals as goal
 
-pub returns-then-not-is_tidy : goal.returns-then-not-is_tidy
+pub returns-then-is_tidy : goal.returns-then-is_tidy
 unfolding is_table
-returns-then-not-is_tidy c = rw (sym c.is_tidy.ensures ∙ c.if-not-is_tidy.true)
+returns-then-is_tidy c = rw (sym c.is_tidy.ensures ∙ c.if-is_tidy.true) (c.is_taken.ensures ∙ rw c.members.ensures)
 
-pub returns : goal.returns
+pub returns-else-is_tidy : goal.returns-else-is_tidy
 unfolding is_table
-returns c = rw (sym c.is_tidy.ensures ∙ c.if-not-is_tidy.false) c.is_taken.ensures
+returns-else-is_tidy c = rw (c.if-is_tidy.false, sym c.is_tidy.ensures ∙ c.if-is_tidy.false)

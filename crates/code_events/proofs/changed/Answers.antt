@@ -1,12 +1,8 @@
 -- `code_events::changed` meets its contract: by the kind.
 use mathlib.Core.Logic.{⊎_elim, inl, inr}
 use borrow.Author.Tests.{ne_eqb}
-use Rattle.spec_events.specs.Events.{load_event, set_bit, clear_bit}
+use Rattle.spec_events.specs.Events.{set_bit, clear_bit}
 use Rattle.code_events.proofs.changed.Goals as goal
-
-pub returns-in-20 : goal.returns-in-20
-unfolding load_event
-returns-in-20 c = rw c.in-20.is c.loaded.ensures
 
 pub returns-in-22 : goal.returns-in-22
 unfolding set_bit

@@ -5,22 +5,16 @@ use borrow.Author.Tests.{lt-ltb, le-ltb, eq-eqb, ne_eqb}
 use Rattle.spec_kernel.specs.Sizes.{thread_count}
 use Rattle.spec_moves.specs.Moves.{thread_in, relocate}
 use Rattle.code_moves.proofs.relocated.Goals as goal
-use Rattle.code_moves.proofs.relocated.Goals.{After-rejoined_places-next, Else-id-ge-THREAD_IDS}
 
 pub returns-then-id-ge-THREAD_IDS : goal.returns-then-id-ge-THREAD_IDS
 unfolding relocate
 returns-then-id-ge-THREAD_IDS c = rw (le-ltb c.args.id thread_count c.if-id-ge-THREAD_IDS.true)
 
--- ---- the steps before a step, by their names
-abbrev else-of : After-rejoined_places-next → Else-id-ge-THREAD_IDS
-else-of c = c.before.before.before.before.before
-
 pub returns-then-old-r : goal.returns-then-old-r
 unfolding relocate
 returns-then-old-r c =
-    let a = (else-of (goal.at.returns-then-old-r c).After-rejoined_places-next).before.args in
     rw (
-      lt-ltb a.id thread_count (else-of (goal.at.returns-then-old-r c).After-rejoined_places-next).if-id-ge-THREAD_IDS.false,
+      lt-ltb c.args.id thread_count c.if-id-ge-THREAD_IDS.false,
       ne_eqb _ _ c.if-old-r.true,
       c.rejoined_places-next.ensures,
       c.rejoined_time-next.ensures,
@@ -29,9 +23,8 @@ returns-then-old-r c =
 pub returns-else-old-r : goal.returns-else-old-r
 unfolding relocate
 returns-else-old-r c =
-    let a = (else-of (goal.at.returns-else-old-r c).After-rejoined_places-next).before.args in
     rw (
-      lt-ltb a.id thread_count (else-of (goal.at.returns-else-old-r c).After-rejoined_places-next).if-id-ge-THREAD_IDS.false,
-      eq-eqb (thread_in a.p a.id).ticks a.r.ticks (omega arith),
+      lt-ltb c.args.id thread_count c.if-id-ge-THREAD_IDS.false,
+      eq-eqb (thread_in c.args.p c.args.id).ticks c.args.r.ticks (omega arith),
       c.rejoined_places-next.ensures,
     )

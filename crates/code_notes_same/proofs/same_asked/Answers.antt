@@ -1,6 +1,6 @@
--- `code_notes_same::same_asked` meets its contract: the first part that differs answers, and the last where none did.
+-- `code_notes_same::same_asked` meets its contract: its tests in two parts.
 use mathlib.Core.Path.{◌≡◌, refl}
-use mathlib.Core.Bool.{Bool, true, false, ◌&&◌, and-true}
+use mathlib.Core.Bool.{Bool, true, false, ◌&&◌}
 use mathlib.Core.List.{List, [], ◌∷◌, ◌++◌}
 use Rattle.spec_kernel.specs.declared.records.Kernel.{Kernel}
 use Rattle.spec_rules.specs.declared.tests.Asked.{Asked}
@@ -20,39 +20,8 @@ parts : (asked : Asked) (a b : Kernel) → same_asked asked a b ≡ (all_of (of_
 unfolding same_asked
 parts asked a b = all_append (of_records asked a b) (of_others asked a b)
 
-pub returns-then-not-same_records : goal.returns-then-not-same_records
-returns-then-not-same_records c = rw (parts, refused c.same_records.ensures c.if-not-same_records.true)
+pub returns-then-same_records : goal.returns-then-same_records
+returns-then-same_records c = rw (parts, passed c.same_records.ensures c.if-same_records.true) c.same_others.ensures
 
-pub returns-then-not-queue_if : goal.returns-then-not-queue_if
-returns-then-not-queue_if c = rw (parts, passed c.same_records.ensures c.if-not-same_records.false, refused c.queue_if.ensures c.if-not-queue_if.true)
-
-pub returns-then-not-queue_if-2 : goal.returns-then-not-queue_if-2
-returns-then-not-queue_if-2 c =
-    rw (
-      parts,
-      passed c.same_records.ensures c.if-not-same_records.false,
-      passed c.queue_if.ensures c.if-not-queue_if.false,
-      refused c.queue_if-2.ensures c.if-not-queue_if-2.true,
-    )
-
-pub returns-then-not-queue_if-3 : goal.returns-then-not-queue_if-3
-returns-then-not-queue_if-3 c =
-    rw (
-      parts,
-      passed c.same_records.ensures c.if-not-same_records.false,
-      passed c.queue_if.ensures c.if-not-queue_if.false,
-      passed c.queue_if-2.ensures c.if-not-queue_if-2.false,
-      refused c.queue_if-3.ensures c.if-not-queue_if-3.true,
-    )
-
-pub returns : goal.returns
-returns c =
-    rw (
-      parts,
-      passed c.same_records.ensures c.if-not-same_records.false,
-      passed c.queue_if.ensures c.if-not-queue_if.false,
-      passed c.queue_if-2.ensures c.if-not-queue_if-2.false,
-      passed c.queue_if-3.ensures c.if-not-queue_if-3.false,
-      and-true,
-    )
-    c.same_numbers.ensures
+pub returns-else-same_records : goal.returns-else-same_records
+returns-else-same_records c = rw (parts, refused c.same_records.ensures c.if-same_records.false) c.if-same_records.false

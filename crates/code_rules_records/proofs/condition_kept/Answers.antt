@@ -1,12 +1,7 @@
 -- `code_rules_records::condition_kept` meets its contract, case by case.
-use native.Mathlib.Omega.{arith}
 use borrow.Author.Tests.{lt-ltb, le-ltb}
 use Rattle.code_rules_records.specs.Others.{condition_by}
 use Rattle.code_rules_records.proofs.condition_kept.Goals as goal
-
-pub returns-then-mask-eq0 : goal.returns-then-mask-eq0
-unfolding condition_by
-returns-then-mask-eq0 c = rw (c.in-ForMessage.is, le-ltb 0 c.in-ForMessage.mask (omega arith))
 
 pub returns-in-Ready : goal.returns-in-Ready
 unfolding condition_by
@@ -24,9 +19,13 @@ pub returns-in-ForEvent : goal.returns-in-ForEvent
 unfolding condition_by
 returns-in-ForEvent c = rw c.in-ForEvent.is c.has-in-ForEvent.ensures
 
-pub returns-else-mask-eq0 : goal.returns-else-mask-eq0
+pub returns-then-mask-gt0 : goal.returns-then-mask-gt0
 unfolding condition_by
-returns-else-mask-eq0 c = rw (c.in-ForMessage.is, lt-ltb 0 c.in-ForMessage.mask (omega arith))
+returns-then-mask-gt0 c = rw (c.in-ForMessage.is, lt-ltb 0 _ c.if-mask-gt0.true)
+
+pub returns-else-mask-gt0 : goal.returns-else-mask-gt0
+unfolding condition_by
+returns-else-mask-gt0 c = rw (c.in-ForMessage.is, le-ltb 0 _ c.if-mask-gt0.false)
 
 pub returns-in-ForFlag : goal.returns-in-ForFlag
 unfolding condition_by

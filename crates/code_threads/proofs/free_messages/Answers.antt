@@ -4,4 +4,4 @@ use Rattle.code_threads.proofs.free_messages.Goals as goal
 
 pub returns : goal.returns
 unfolding free_messages
-returns c = rw (c.freed_records-records.ensures, c.freed_posts-queue.ensures)
+returns c = rw (c.freed_records-messages.ensures, c.freed_posts-posted.ensures)

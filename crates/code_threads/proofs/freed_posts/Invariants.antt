@@ -1,12 +1,11 @@
--- `code_threads::freed_posts` meets its contract: a holds those of the i places passed that t doesn't own, and k says how many they are.
-use Prim.Native.Nat.{ℕ, ◌≤◌, ◌-◌}
+-- `code_threads::freed_posts` meets its contract: a holds those of the members passed that t doesn't own, and n says how many they are.
+use Prim.Native.Nat.{ℕ, ◌≤◌}
 use mathlib.Core.Path.{◌≡◌}
 use mathlib.Core.Bool.{Bool, not}
 use mathlib.Core.List.{List}
 use lib.ListN.{length, take, get_or}
 use Rattle.base_queue.specs.Lists.{keep}
-use Rattle.base_queue.specs.Queues.{pad}
-use Rattle.base_queue.proofs.Queues.{Walk}
+use Rattle.base_queue.specs.Queues.{items, pad}
 use Rattle.spec_kernel.specs.declared.records.Message.{Message}
 use Rattle.spec_kernel.specs.Records.{no_message}
 use Rattle.spec_threads.specs.Threads.{owns}
@@ -16,11 +15,9 @@ abbrev pub stays : List Message → ℕ → ℕ → Bool
 stays messages t m = not (owns t (get_or messages m no_message))
 
 abbrev pub kept : List Message → ℕ → List ℕ → ℕ → List ℕ
-kept messages t at i = keep (stays messages t) (take i at)
+kept messages t l i = keep (stays messages t) (take i l)
 
-abbrev pub invariant-loop-i : goal.invariant-loop-i
-invariant-loop-i l =
-    Walk l.at l.n l.i × (l.k ≤ l.i) × (l.k ≡ length (kept l.messages l.t l.at l.i)) × (l.a ≡ pad (kept l.messages l.t l.at l.i))
-
-abbrev pub decreases-loop-i : goal.decreases-loop-i
-decreases-loop-i l = l.n - l.i
+abbrev pub invariant-loop-m : goal.invariant-loop-m
+invariant-loop-m l =
+    (l.m-items ≡ items l.fn.posted) × (l.n ≤ l.m-index) × (l.n ≡ length (kept l.messages l.t l.m-items l.m-index))
+    × (l.a ≡ pad (kept l.messages l.t l.m-items l.m-index))

@@ -7,6 +7,6 @@ pub returns-then-at-log : goal.returns-then-at-log
 unfolding put
 returns-then-at-log c = rw (lt-ltb _ _ c.if-at-log.true)
 
-pub returns : goal.returns
+pub returns-else-at-log : goal.returns-else-at-log
 unfolding put
-returns c = rw (le-ltb _ _ c.if-at-log.false)
+returns-else-at-log c = rw (le-ltb _ _ c.if-at-log.false)

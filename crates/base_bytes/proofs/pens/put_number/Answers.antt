@@ -1,4 +1,5 @@
--- `base_bytes::pens::put_number` meets its contract: what is still to write are the k lowest bytes of y.
+-- `base_bytes::pens::put_number` meets its contract: what is still to write are the lowest bytes of `rest`.
+use Prim.Native.Nat.{◌+◌, ◌-◌}
 use mathlib.Core.Path.{◌≡◌, sym, ◌∙◌}
 use native.Mathlib.Omega.{arith}
 use Rattle.base_bytes.specs.Bytes.{le}
@@ -6,15 +7,14 @@ use Rattle.base_bytes.specs.Pens.{puts}
 use Rattle.base_bytes.proofs.Turns.{le_next}
 use Rattle.base_bytes.proofs.pens.put_number.Goals as goal
 
-pub loop-k-preserved : goal.loop-k-preserved
+pub loop-preserved : goal.loop-preserved
 unfolding puts
-loop-k-preserved c =
-    let l = c.loop-k in
-    let b = c.put_byte-p in
-    (b.auto.log ∙ l.invariant.0, l.invariant.1 ∙ rw (le_next l.k l.y (omega arith), b.ensures))
+loop-preserved c =
+    let l = c.loop in
+    l.invariant ∙ rw (le_next (c.args.w - l.counter) (c.args.w - (l.counter + 1)) l.rest (omega arith), c.put_byte-p.ensures)
 
 pub returns : goal.returns
 unfolding puts le
 returns c =
-    let z : c.loop-k.k ≡ 0 = omega arith in
-    sym (c.loop-k.invariant.1 ∙ rw z)
+    let z : c.args.w - c.loop.counter ≡ 0 = omega arith in
+    sym (c.loop.invariant ∙ rw z)

@@ -15,8 +15,8 @@ returns-then-byte_at-eq1 c =
     let e : get_or s 0 0 / 64 % 2 ≡ 1 = omega (arith, c.byte_at.ensures, c.if-byte_at-eq1.true) in
     rw (e, get_or-drop) c.byte_at-then-byte_at-eq1.ensures
 
-pub returns : goal.returns
+pub returns-else-byte_at-eq1 : goal.returns-else-byte_at-eq1
 unfolding code_in
-returns c =
+returns-else-byte_at-eq1 c =
     let s = c.args.e.now in
     rw (ne_eqb (get_or s 0 0 / 64 % 2) 1 (λ z. c.if-byte_at-eq1.false (omega (arith, c.byte_at.ensures, z))))

@@ -14,10 +14,10 @@ returns-then-head-eq1 c =
     let s = c.args.e.now in
     let b = c.byte_at-head.ensures in
     let e : get_or s 0 0 / 128 % 2 ≡ 1 = omega (arith, b, c.if-head-eq1.true) in
-    rw (e, get_or-drop) (c.byte_at.ensures ∙ rw (c.flags_from.ensures, b))
+    rw (e, get_or-drop) (c.byte_at.ensures ∙ rw (c.from.ensures, c.flags_from.ensures, b))
 
-pub returns : goal.returns
+pub returns-else-head-eq1 : goal.returns-else-head-eq1
 unfolding flags_in
-returns c =
+returns-else-head-eq1 c =
     let s = c.args.e.now in
     rw (ne_eqb (get_or s 0 0 / 128 % 2) 1 (λ z. c.if-head-eq1.false (omega (arith, c.byte_at-head.ensures, z))))

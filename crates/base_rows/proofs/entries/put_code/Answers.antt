@@ -7,6 +7,6 @@ pub returns-then-code-told : goal.returns-then-code-told
 unfolding puts
 returns-then-code-told c = rw (eq-eqb _ _ c.if-code-told.true)
 
-pub returns : goal.returns
+pub returns-else-code-told : goal.returns-else-code-told
 unfolding puts
-returns c = rw (ne_eqb _ _ c.if-code-told.false, c.put_byte.ensures)
+returns-else-code-told c = rw (ne_eqb _ _ c.if-code-told.false, c.put_byte.ensures)

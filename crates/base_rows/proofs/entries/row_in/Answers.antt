@@ -9,4 +9,4 @@ unfolding row_in
 returns c =
     rw drop-drop
     (c.row_at.ensures
-    ∙ rw (c.flags_in.ensures, c.fields_from.ensures, c.byte_at.ensures))
+    ∙ rw (c.flags_in.ensures, c.from-at.ensures, c.fields_from.ensures, c.byte_at.ensures))

@@ -15,11 +15,12 @@ returns c =
     let f = fields_from (get_or s 0 0) in
     let u = used_by a.widths (flags_in (get_or s 0 0) (drop 1 s)) in
     let e : min (1 + f + min u (length s)) (length s) ≡ min (1 + (f + u)) (length s) = omega arith in
-    c.least.ensures
+    c.min.ensures
     ∙ rw (
-      c.least-used.ensures,
+      c.min-used.ensures,
       c.used_by.ensures,
       c.flags_in.ensures,
+      c.from-before.ensures,
       c.fields_from.ensures,
       c.byte_at.ensures,
     )

@@ -16,16 +16,16 @@ step : (c : In-loop-i) → let a = c.args in let k = c.loop-i.i - 1 in
 step c =
     let a = c.args in
     let l = c.loop-i in
-    rw l.invariant.3 (flags_next a.old a.predicted (l.i - 1) l.i (omega arith) (omega arith) (omega arith))
+    rw l.invariant (flags_next a.old a.predicted (l.i - 1) l.i (omega arith) (search rules) (search rules))
 
 small : (c : In-loop-i) → let a = c.args in let k = c.loop-i.i - 1 in
     flag_of (get_or a.old k 0) (get_or a.predicted k 0) + 2 * c.loop-i.flags < 256
 small c =
     let a = c.args in
-    rw (← step c) (flags_byte a.old a.predicted (c.loop-i.i - 1) (omega arith))
+    rw (← step c) (flags_byte a.old a.predicted (c.loop-i.i - 1) (search rules))
 
 pub loop-i-init : goal.loop-i-init
-loop-i-init c = (search rules, search rules, search rules, sym (flags_end c.args.old c.args.predicted 8 (search rules)))
+loop-i-init c = sym (flags_end c.args.old c.args.predicted 8 (search rules))
 
 pub overflow_mul-flags : goal.overflow_mul-flags
 overflow_mul-flags c = omega (arith, small (goal.at.overflow_mul-flags c).In-loop-i)
@@ -34,11 +34,4 @@ pub overflow_add-flags : goal.overflow_add-flags
 overflow_add-flags c = omega (arith, small (goal.at.overflow_add-flags c).In-loop-i, c.flag_of.ensures)
 
 pub loop-i-preserved : goal.loop-i-preserved
-loop-i-preserved c =
-    let l = c.loop-i in
-    (omega arith, l.invariant.1, l.invariant.2, sym (step (goal.at.loop-i-preserved c).In-loop-i ∙ rw c.flag_of.ensures))
-
-pub returns : goal.returns
-returns c =
-    let z : c.loop-i.i ≡ 0 = omega arith in
-    c.loop-i.invariant.3 ∙ rw z
+loop-i-preserved c = sym (step (goal.at.loop-i-preserved c).In-loop-i ∙ rw c.flag_of.ensures)

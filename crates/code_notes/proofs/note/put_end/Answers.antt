@@ -5,6 +5,6 @@ use Rattle.code_notes.proofs.note.put_end.Goals as goal
 
 pub returns : goal.returns
 returns c =
-    let l : c.least.result ≡ min c.args.at longest_note =
-    c.least.ensures in
+    let l : c.min.result ≡ min c.args.at longest_note =
+    c.min.ensures in
     rw (← l) c.put_number.ensures

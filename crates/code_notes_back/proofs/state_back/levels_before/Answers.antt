@@ -21,5 +21,5 @@ returns c =
     let b : Bytes s = λ i. omega (arith, c.type_inv.s i) in
     let e : c.row_at.result.fields
     ≡ row_from scheduler_widths (get_or s 0 0) (predicted_levels a.c a.unscheduled a.critical a.runner) (drop 1 s) =
-    rw (c.row_at.ensures, c.predicted-told.ensures, c.byte_at-flags.ensures) (rw cut_scheduler) in
+    rw (c.row_at.ensures, c.predicted-told.ensures, c.byte_at.ensures) (rw cut_scheduler) in
     (e, rw e (row_at scheduler_widths (get_or s 0 0) _ (drop 1 s) (drop_bytes 1 s b) 2 (search rules)))

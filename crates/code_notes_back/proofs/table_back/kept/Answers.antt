@@ -1,41 +1,49 @@
--- `code_notes_back::table_back::kept` meets its contract: a holds those of the i places passed that nobody touched, and k says how many
--- they are.
+-- `code_notes_back::table_back::kept` meets its contract: the store holds those of the members passed that nobody touched, n of them.
 use Prim.Native.Nat.{ℕ}
-use mathlib.Core.Path.{◌≡◌, refl, sym, ◌∙◌}
+use mathlib.Core.Path.{◌≡◌, refl, sym}
 use mathlib.Core.Bool.{true, false}
 use mathlib.Core.List.{List, append-nil}
 use native.Mathlib.Omega.{arith}
-use lib.ListN.{get_or, take, length-append}
-use Rattle.base_queue.specs.Lists.{keep}
-use Rattle.base_queue.proofs.Lists.{keep_next}
-use Rattle.base_queue.proofs.Queues.{walk_start, sized_items, pad_push, queue_eq}
-use Rattle.code_notes_back.proofs.Merging.{untouched}
+use lib.ListN.{length, get_or, take, length-append}
+use lib.Seq.{take_all}
 use borrow.Author.Rules.{rules}
+use borrow.Author.Tests.{eq-eqb, ne_eqb}
+use Rattle.base_queue.specs.Lists.{keep}
+use Rattle.base_queue.specs.Queues.{capacity}
+use Rattle.base_queue.proofs.Lists.{keep_next}
+use Rattle.base_queue.proofs.Queues.{length_items, pad_push, queue_eq}
+use Rattle.code_notes_back.proofs.Merging.{untouched}
 use Rattle.code_notes_back.proofs.table_back.kept.Goals as goal
+use Rattle.code_notes_back.proofs.table_back.kept.Goals.{then-stays, else-stays}
 
-pub loop-i-init : goal.loop-i-init
-loop-i-init c = (walk_start c.args.q _ c.size-n.ensures 0 (omega arith) (search rules), omega arith, refl, refl)
+pub loop-x-init : goal.loop-x-init
+loop-x-init c =
+    let q = c.args.q in
+    let e : length q.at ≡ capacity = search rules in
+    (rw c.members-x-items.ensures (length_items q e), omega arith, refl, refl)
 
-pub loop-i-preserved-then-stays : goal.loop-i-preserved-then-stays
-loop-i-preserved-then-stays c =
-    let a = c.args in
-    let l = c.loop-i in
-    let w : List ℕ = keep (untouched a.out) (take l.i a.q.at) in
-    let t : untouched a.out (get_or a.q.at l.i 0) ≡ true = sym c.stays.ensures ∙ c.if-stays.true in
-    let e = rw t at (keep_next (untouched a.out) 0 a.q.at l.i (omega arith)) in
-    (omega arith, omega arith, rw (e, length-append) (omega arith), rw (e, l.invariant.3) (pad_push w l.k _ (sym l.invariant.2) (omega arith)))
-
-pub loop-i-preserved : goal.loop-i-preserved
-loop-i-preserved c =
-    let a = c.args in
-    let l = c.loop-i in
-    let t : untouched a.out (get_or a.q.at l.i 0) ≡ false = sym c.stays.ensures ∙ c.if-stays.false in
-    let e = rw t at (keep_next (untouched a.out) 0 a.q.at l.i (omega arith)) in
-    (omega arith, omega arith, rw (e, append-nil) l.invariant.2, rw (e, append-nil) l.invariant.3)
+pub loop-x-preserved : goal.loop-x-preserved
+loop-x-preserved c =
+    let l = c.loop-x in
+    let xs : List ℕ = c.members-x-items.result.now in
+    let x : ℕ = get_or xs l.x-index 0 in
+    let stays = untouched c.args.out.now in
+    let next = keep_next stays 0 xs l.x-index c.loop-x-test.true in
+    elim c.if-stays.branch [
+      | then-stays w ↦
+          let t : stays x ≡ true = rw c.byte_at-stays.ensures at (eq-eqb _ _ w.if-stays.true) in
+          let e = rw t at next in
+          let p = pad_push (keep stays (take l.x-index xs)) l.n x (sym l.invariant.2) (omega arith) in
+          (l.invariant.0, omega arith, rw (w.n-is, e, length-append) (omega arith), rw (w.at-is, e, l.invariant.3) p)
+      | else-stays w ↦
+          let t : stays x ≡ false = rw c.byte_at-stays.ensures at (ne_eqb _ _ w.if-stays.false) in
+          let e = rw (t, append-nil) at next in
+          (l.invariant.0, omega arith, rw (w.n-is, e) l.invariant.2, rw (w.at-is, e) l.invariant.3)
+    ]
 
 pub returns : goal.returns
 returns c =
-    let l = c.loop-i in
-    let e : l.i ≡ c.size-n.result = omega arith in
-    rw (sized_items c.args.q _ c.size-n.ensures, ← e)
-    (queue_eq l.invariant.2 l.invariant.3)
+    let l = c.loop-x in
+    let xs : List ℕ = c.members-x-items.result.now in
+    let e = take_all l.x-index xs c.loop-x-test.false in
+    rw (← c.members-x-items.ensures) (queue_eq (rw e at l.invariant.2) (rw e at l.invariant.3))

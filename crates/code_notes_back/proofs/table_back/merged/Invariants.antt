@@ -1,5 +1,4 @@
 -- `code_notes_back::table_back::merged` meets its contract: i places are filled, with j of those that stayed.
-use Prim.Native.Nat.{◌-◌, ◌≤◌}
 use mathlib.Core.Path.{◌≡◌}
 use mathlib.Core.List.{◌++◌}
 use lib.ListN.{length, take, drop}
@@ -10,9 +9,6 @@ use Rattle.code_notes_back.proofs.table_back.merged.Given as goal
 
 abbrev pub invariant-loop-i : goal.invariant-loop-i
 invariant-loop-i l =
-    (l.j ≤ l.i) × (l.i ≤ capacity) × (l.n ≤ capacity) × (length l.at ≡ capacity) × (length l.l ≡ capacity) × (length l.a ≡ capacity)
+    (length l.a ≡ capacity)
     × (l.a ≡ pad (take l.i l.a))
-    × (merge (length l.at) l.at (take l.n l.l) ≡ take l.i l.a ++ merge_from l.i l.at (drop l.j (take l.n l.l)))
-
-abbrev pub decreases-loop-i : goal.decreases-loop-i
-decreases-loop-i l = capacity - l.i
+    × (merge (length l.at) l.at l.stayed ≡ take l.i l.a ++ merge_from l.i l.at (drop l.j l.stayed))

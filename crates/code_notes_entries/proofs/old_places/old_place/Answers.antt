@@ -12,23 +12,23 @@ use Rattle.base_queue.proofs.Lists.{has_place}
 use Rattle.base_queue.proofs.Queues.{length_items}
 use Rattle.code_notes_entries.proofs.old_places.old_place.Goals as goal
 
-pub returns-then-size-i : goal.returns-then-size-i
-returns-then-size-i c =
+pub returns-else-i-size : goal.returns-else-i-size
+returns-else-i-size c =
     let a = c.args in
     let h : length (items a.q) ≤ place_of a.x (items a.q) =
-    omega (arith, c.if-size-i.true, c.size.ensures, c.place_of-i.ensures) in
+    omega (arith, c.if-i-size.false, c.size.ensures, c.place_of-i.ensures) in
     let e : has a.x (items a.q) ≡ false = sym (has_place a.x (items a.q)) ∙ le-ltb _ _ h in
     rw e
 
 pub overflow_cast-result : goal.overflow_cast-result
 overflow_cast-result c =
     let a = c.args in
-    omega (arith, c.if-size-i.false, c.size.ensures, length_items a.q (search rules))
+    omega (arith, c.if-i-size.true, c.size.ensures, length_items a.q (search rules))
 
-pub returns : goal.returns
-returns c =
+pub returns-then-i-size : goal.returns-then-i-size
+returns-then-i-size c =
     let a = c.args in
     let h : place_of a.x (items a.q) < length (items a.q) =
-    omega (arith, c.if-size-i.false, c.size.ensures, c.place_of-i.ensures) in
+    omega (arith, c.if-i-size.true, c.size.ensures, c.place_of-i.ensures) in
     let e : has a.x (items a.q) ≡ true = sym (has_place a.x (items a.q)) ∙ lt-ltb _ _ h in
     rw e c.place_of-i.ensures

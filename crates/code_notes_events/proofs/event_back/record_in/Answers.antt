@@ -17,5 +17,5 @@ returns c =
     let f = event_fits a.r (search rules) (search rules) in
     c.from_row.ensures
     ∙ ap event_from
-    (rw (c.row_in-row.ensures, c.row_of-told.ensures)
+    (rw (c.row_in-row.ensures, c.row_of-predicted.ensures)
     (read_fits event_widths _ _ _ cut_event (drop_bytes 1 s b) f))

@@ -1,38 +1,35 @@
 -- `code_notes_flags::flag_back::flags_before` meets its contract: an empty section tells nothing, and else its first byte is cleared.
-use mathlib.Core.Path.{◌≡◌, refl}
+use mathlib.Core.Path.{◌≡◌, refl, sym}
 use mathlib.Core.Bool.{true, false}
 use mathlib.Core.List.{List, [], ◌∷◌}
-use Prim.Native.Nat.{ℕ, ◌<◌}
+use Prim.Native.Nat.{ℕ}
 use native.Mathlib.Omega.{arith}
-use lib.ListN.{length}
+use lib.ListN.{get_or}
+use Rattle.std.proofs.Common.{Some, None, slice_get}
 use Rattle.base_bits.proofs.Laws.{without_small}
 use Rattle.base_queue.specs.Lists.{is_empty}
 use Rattle.spec_notes.specs.Back.{flags_before}
-use Rattle.spec_notes.proofs.FlagsBack.{predicted_small}
 use Rattle.code_notes_flags.proofs.flag_back.flags_before.Goals as goal
 
-none : (l : List ℕ) → length l ≡ 0 → is_empty l ≡ true
+none : (l : List ℕ) → slice_get l 0 ≡ None → is_empty l ≡ true
 none [] h = refl
-none (x ∷ l) h = absurd (omega arith)
+none (x ∷ l) h = cc
 
-some : (l : List ℕ) → (length l ≡ 0 → ⊥) → is_empty l ≡ false
-some [] h = absurd (h refl)
-some (x ∷ l) h = refl
-
-pub returns-then-s-eq0 : goal.returns-then-s-eq0
-unfolding flags_before
-returns-then-s-eq0 c = rw (none c.args.s.now c.if-s-eq0.true) c.predicted-told.ensures
+some : (l : List ℕ) (x : ℕ) → slice_get l 0 ≡ Some x → (is_empty l ≡ false) × (get_or l 0 0 ≡ x)
+some [] x h = cc
+some (y ∷ l) x h = (refl, cc)
 
 pub overflow_cast-result : goal.overflow_cast-result
 overflow_cast-result c =
-    let b : c.predicted-told.result < 65536 = rw c.predicted-told.ensures (predicted_small c.args.c c.args.flags c.well_formed.1.0.1) in
-    omega (arith, c.without_bit.ensures, without_small c.predicted-told.result c.byte_at.result b)
+    let told = c.predicted-told in
+    omega (arith, c.without_bit.ensures, without_small told.result c.in-Some.id.now told.type_inv)
 
-pub returns : goal.returns
+pub returns-in-None : goal.returns-in-None
 unfolding flags_before
-returns c =
-    rw (
-      some c.args.s.now c.if-s-eq0.false,
-      ← c.predicted-told.ensures,
-      ← c.byte_at.ensures,
-    ) c.without_bit.ensures
+returns-in-None c = rw (none c.args.s.now (sym c.in-None.ensures.value)) c.predicted-told.ensures
+
+pub returns-in-Some : goal.returns-in-Some
+unfolding flags_before
+returns-in-Some c =
+    let e = some c.args.s.now c.in-Some.id.now (sym c.in-Some.ensures.value) in
+    rw (e.0, e.1, ← c.predicted-told.ensures) c.without_bit.ensures

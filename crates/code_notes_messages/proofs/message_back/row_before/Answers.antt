@@ -22,5 +22,5 @@ returns c =
     message_fits a.c a.runner a.r (search rules) (search rules) (search rules) (search rules) (search rules) (search rules)
     (search rules) in
     let e : c.row_in.result.fields ≡ row_in message_widths told (get_or s 0 0) (drop 1 s) =
-    rw (c.row_in.ensures, c.predicted-told.ensures) (rw cut_message) in
+    rw (c.row_in.ensures, c.predicted-predicted.ensures) (rw cut_message) in
     (e, rw e (rw cut_message at (read_fits message_widths told (get_or s 0 0) (drop 1 s) cut_message (drop_bytes 1 s b) f)))

@@ -17,5 +17,5 @@ returns c =
     let f = semaphore_fits a.c a.r (search rules) (search rules) (search rules) (search rules) in
     c.from_row.ensures
     ∙ ap semaphore_from
-    (rw (c.row_in-row.ensures, c.predicted-told.ensures)
+    (rw (c.row_in-row.ensures, c.predicted-predicted.ensures)
     (read_fits semaphore_widths _ _ _ cut_semaphore (drop_bytes 1 s b) f))

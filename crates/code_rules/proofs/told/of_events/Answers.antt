@@ -2,25 +2,22 @@
 use mathlib.Core.Path.{◌≡◌, ap}
 use mathlib.Core.Bool.{not}
 use native.Mathlib.Omega.{arith}
-use lib.ListN.{length}
 use Rattle.base_bits.proofs.Members.{tells_none}
 use Rattle.spec_kernel.specs.Sizes.{event_count}
 use Rattle.code_rules.proofs.Loops.{tells_more}
-use borrow.Author.Rules.{rules}
 use Rattle.code_rules.proofs.told.of_events.Goals as goal
 
 pub loop-i-init : goal.loop-i-init
 loop-i-init c =
-    let e : length c.args.events ≡ event_count = search rules in
-    (e, omega arith, tells_none _)
+    tells_none _
 
 pub loop-i-preserved : goal.loop-i-preserved
 loop-i-preserved c =
     let l = c.loop-i in
-    (l.invariant.0, omega arith, tells_more l.invariant.2 (omega arith) c.joined-untrue.ensures (ap not c.is_true.ensures))
+    tells_more l.invariant (omega arith) c.joined-untrue.ensures (ap not c.is_true.ensures)
 
 pub returns : goal.returns
 returns c =
     let l = c.loop-i in
     let e : l.i ≡ event_count = omega arith in
-    rw e at l.invariant.2
+    rw e at l.invariant

@@ -1,7 +1,0 @@
--- `base_bytes::bytes::byte_at` meets its contract: past the end is the default.
-use mathlib.Core.Path.{sym}
-use lib.ListN.{get_or-eq_default}
-use Rattle.base_bytes.proofs.bytes.byte_at.Goals as goal
-
-pub returns-else-at-s : goal.returns-else-at-s
-returns-else-at-s c = sym (get_or-eq_default c.args.s.now 0 c.if-at-s.false)

@@ -1,9 +1,0 @@
--- `code_kernel::places::is_queued` meets its contract: a live message on a channel above 0.
-use borrow.Author.Tests.{not-true, not-false}
-use Rattle.code_kernel.proofs.places.is_queued.Goals as goal
-
-pub returns-then-not-r : goal.returns-then-not-r
-returns-then-not-r c = rw (not-true c.args.r.live c.if-not-r.true)
-
-pub returns : goal.returns
-returns c = rw (not-false c.args.r.live c.if-not-r.false)
