@@ -29,7 +29,7 @@ fn alone(size: u8, x: u16) -> Span
 }
 
 // The ids of a class, by its column of the row of the call's kind_of(c).
-#[tactic(auto, unfolding(code_notes_spans::specs::Spans::span_of))]
+#[tactic(auto, unfolding(crate::specs::Spans::span_of))]
 fn span_of(size: u8, which: Which, c: Call, runner: u8, value: u8, waiter: u8) -> Span
     ensures { meant result ≡ span_of size which c runner value waiter }
 {
@@ -48,7 +48,7 @@ fn span_of(size: u8, which: Which, c: Call, runner: u8, value: u8, waiter: u8) -
 }
 
 // A new thread has the id that the call answers; `waiter` is the first that waits for semaphore a.
-#[tactic(auto, unfolding(code_notes_spans::specs::Spans::thread_span))]
+#[tactic(auto, unfolding(crate::specs::Spans::thread_span))]
 pub fn thread_span(c: Call, runner: u8, value: u8, waiter: u8) -> Span
     ensures { meant result ≡ thread_span c runner value waiter }
 {
@@ -62,7 +62,7 @@ pub fn thread_span(c: Call, runner: u8, value: u8, waiter: u8) -> Span
     )
 }
 
-#[tactic(auto, unfolding(code_notes_spans::specs::Spans::semaphore_span))]
+#[tactic(auto, unfolding(crate::specs::Spans::semaphore_span))]
 pub fn semaphore_span(c: Call, value: u8) -> Span
     ensures { meant result ≡ semaphore_span c value }
 {
@@ -76,7 +76,7 @@ pub fn semaphore_span(c: Call, value: u8) -> Span
     )
 }
 
-#[tactic(auto, unfolding(code_notes_spans::specs::Spans::event_span))]
+#[tactic(auto, unfolding(crate::specs::Spans::event_span))]
 pub fn event_span(c: Call) -> Span
     ensures { meant result ≡ event_span c }
 {
@@ -84,7 +84,7 @@ pub fn event_span(c: Call) -> Span
 }
 
 // A new message and one that is handed over have the id that the call answers.
-#[tactic(auto, unfolding(code_notes_spans::specs::Spans::message_span))]
+#[tactic(auto, unfolding(crate::specs::Spans::message_span))]
 pub fn message_span(c: Call, value: u8) -> Span
     ensures { meant result ≡ message_span c value }
 {
