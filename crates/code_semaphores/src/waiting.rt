@@ -16,7 +16,7 @@ pub struct Waiting {
 pub fn waiting_of(k: Kernel) -> Waiting
     ensures { result ≡ waiting_of k }
 {
-    // Named first: the borrow checker covers no literal that reads an array of structs.
+    // In a variable first: the borrow checker covers no array field that goes straight into a literal.
     let semaphores = k.semaphores;
     Waiting {
         threads: states::threads_of(k),
@@ -28,7 +28,7 @@ pub fn waiting_of(k: Kernel) -> Waiting
 pub fn with_waiting(k: Kernel, w: Waiting) -> Kernel
     ensures { result ≡ with_waiting w k }
 {
-    // Named first, as above.
+    // In a variable first, as above.
     let semaphores = w.semaphores;
     Kernel {
         semaphores,

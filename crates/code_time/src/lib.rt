@@ -70,10 +70,8 @@ fn time_passes(p: Threads) -> Threads
     ensures { result ≡ time_passes p }
 {
     let woken = due_woken(p);
-    Threads {
-        records: aged_records(woken.records),
-        ..woken
-    }
+    let records = aged_records(woken.records);
+    Threads { records, ..woken }
 }
 
 // Semaphore i, where it is periodic, has a tick less; with its last one it is posted and its period begins again.
@@ -89,7 +87,11 @@ fn pulse(w: Waiting, i: u8) -> Waiting
         let s = by_id::semaphore_at(next.semaphores, i);
         return waiting::stored(next, i, semaphores::with_ticks(s, r.period, r.period));
     }
-    waiting::stored(w, i, semaphores::with_ticks(r, r.ticks.saturating_sub(1), r.period))
+    waiting::stored(
+        w,
+        i,
+        semaphores::with_ticks(r, r.ticks.saturating_sub(1), r.period),
+    )
 }
 
 // The periodic semaphores in id order.
@@ -115,7 +117,7 @@ fn later(uptime: u32) -> u32
 pub fn tick(k: Kernel, c: Call) -> Kernel
     ensures { result ≡ tick k c }
 {
-    // Named first: the borrow checker covers no literal that reads an array of structs.
+    // In a variable first: the borrow checker covers no array field that goes straight into a literal.
     let semaphores = k.semaphores;
     let w = Waiting {
         threads: time_passes(states::threads_of(k)),
