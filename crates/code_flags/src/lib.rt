@@ -14,17 +14,19 @@ pub fn create_flag(k: Kernel, c: Call) -> Kernel
     ensures { result ≡ create_flag k c }
 {
     let i = free::free_flag(k.flags);
-    let mut next = k;
-    next.flags = base_bits::with_bit(k.flags as u32, i) as u16;
-    next
+    Kernel {
+        flags: base_bits::with_bit(k.flags as u32, i) as u16,
+        ..k
+    }
 }
 
 pub fn destroy_flag(k: Kernel, c: Call) -> Kernel
     ensures { result ≡ destroy_flag k c }
 {
-    let mut next = k;
-    next.flags = base_bits::without_bit(k.flags as u32, c.a) as u16;
-    next
+    Kernel {
+        flags: base_bits::without_bit(k.flags as u32, c.a) as u16,
+        ..k
+    }
 }
 
 // The critical region ends before the caller blocks: no thread waits inside one.

@@ -4,6 +4,7 @@
 ghost use Rattle.std.specs.Prelude.{◌≡◌};
 ghost use Rattle.spec_messages.specs.Messages.{passed, create_message, destroy_message, hand_over, post_message, receive, pend_message};
 
+use code_kernel::conditions::awaits;
 use code_kernel::records::no_message;
 use code_kernel_find::{by_id, firsts, free};
 use code_moves::states;
@@ -14,18 +15,18 @@ use spec_kernel::records::{Condition, Kernel, Message, Wake};
 fn passed(r: Message, owner: u8, sender: u8, channel: u8) -> Message
     ensures { result ≡ passed owner sender channel r }
 {
-    let mut next = r;
-    next.owner = owner;
-    next.sender = sender;
-    next.channel = channel;
-    next
+    Message {
+        owner,
+        sender,
+        channel,
+        ..r
+    }
 }
 
 pub fn create_message(k: Kernel, c: Call) -> Kernel
     ensures { result ≡ create_message k c }
 {
-    let messages = k.messages;
-    let id = free::free_message(messages);
+    let id = free::free_message(k.messages);
     let r = Message {
         live: true,
         owner: k.runner,
@@ -48,10 +49,8 @@ pub fn destroy_message(k: Kernel, c: Call) -> Kernel
 fn hand_over(k: Kernel, m: u8, t: u8) -> Kernel
     ensures { result ≡ hand_over m t k }
 {
-    let messages = k.messages;
-    let threads = k.threads;
-    let r = by_id::message_at(messages, m);
-    let s = by_id::thread_at(threads, t as u16);
+    let r = by_id::message_at(k.messages, m);
+    let s = by_id::thread_at(k.threads, t as u16);
     states::placed(
         states::filed(k, m, passed(r, t, k.runner, 0)),
         t,
@@ -62,16 +61,13 @@ fn hand_over(k: Kernel, m: u8, t: u8) -> Kernel
 pub fn post_message(k: Kernel, c: Call) -> Kernel
     ensures { result ≡ post_message k c }
 {
-    let threads = k.threads;
-    let s = by_id::thread_at(threads, c.b);
+    let s = by_id::thread_at(k.threads, c.b);
     let channel = (c.c % 256) as u8;
     let t = (c.b % 256) as u8;
-    let waits = s.condition;
-    if code_kernel::conditions::awaits(waits, channel) {
+    if awaits(s.condition, channel) {
         return hand_over(k, c.a, t);
     }
-    let messages = k.messages;
-    let r = by_id::message_at(messages, c.a);
+    let r = by_id::message_at(k.messages, c.a);
     states::filed(k, c.a, passed(r, t, k.runner, channel))
 }
 
@@ -79,19 +75,17 @@ pub fn post_message(k: Kernel, c: Call) -> Kernel
 fn receive(k: Kernel, m: u8) -> Kernel
     ensures { result ≡ receive m k }
 {
-    let messages = k.messages;
-    let r = by_id::message_at(messages, m);
+    let r = by_id::message_at(k.messages, m);
     states::filed(k, m, passed(r, r.owner, r.sender, 0))
 }
 
 pub fn pend_message(k: Kernel, c: Call) -> Kernel
     ensures { result ≡ pend_message k c }
 {
-    let messages = k.messages;
-    let posted = k.posted;
-    let m = firsts::next_message(messages, posted, k.runner, c.b);
+    let m = firsts::next_message(k.messages, k.posted, k.runner, c.b);
     if m == 255 {
-        return code_threads::block(k, Condition::ForMessage(c.b), c.c);
+        code_threads::block(k, Condition::ForMessage(c.b), c.c)
+    } else {
+        receive(k, m)
     }
-    receive(k, m)
 }

@@ -12,7 +12,7 @@ use spec_moves::parts::Threads;
 pub fn threads_of(k: Kernel) -> Threads
     ensures { result ≡ threads_of k }
 {
-    // Named first: the borrow checker covers no literal that reads an array of structs.
+    // In a variable first: the borrow checker covers no array field that goes straight into a literal.
     let records = k.threads;
     Threads {
         records,
@@ -25,7 +25,7 @@ pub fn threads_of(k: Kernel) -> Threads
 pub fn with_threads(k: Kernel, p: Threads) -> Kernel
     ensures { result ≡ with_threads p k }
 {
-    // Named first, as above.
+    // In a variable first, as above.
     let threads = p.records;
     Kernel {
         threads,

@@ -10,55 +10,50 @@ use spec_kernel::records::Kernel;
 pub fn push_unscheduled(k: Kernel, c: Call) -> Kernel
     ensures { result ≡ push_unscheduled k c }
 {
-    let mut next = k;
-    if k.unscheduled < 255 {
-        next.unscheduled = k.unscheduled + 1;
+    Kernel {
+        unscheduled: k.unscheduled.saturating_add(1),
+        ..k
     }
-    next
 }
 
 pub fn pop_unscheduled(k: Kernel, c: Call) -> Kernel
     ensures { result ≡ pop_unscheduled k c }
 {
-    let mut next = k;
-    if 0 < k.unscheduled {
-        next.unscheduled = k.unscheduled - 1;
+    Kernel {
+        unscheduled: k.unscheduled.saturating_sub(1),
+        ..k
     }
-    next
 }
 
 pub fn pop_all_unscheduled(k: Kernel, c: Call) -> Kernel
     ensures { result ≡ pop_all_unscheduled k c }
 {
-    let mut next = k;
-    next.unscheduled = 0;
-    next
+    Kernel {
+        unscheduled: 0,
+        ..k
+    }
 }
 
 pub fn push_critical(k: Kernel, c: Call) -> Kernel
     ensures { result ≡ push_critical k c }
 {
-    let mut next = k;
-    if k.critical < 255 {
-        next.critical = k.critical + 1;
+    Kernel {
+        critical: k.critical.saturating_add(1),
+        ..k
     }
-    next
 }
 
 pub fn pop_critical(k: Kernel, c: Call) -> Kernel
     ensures { result ≡ pop_critical k c }
 {
-    let mut next = k;
-    if 0 < k.critical {
-        next.critical = k.critical - 1;
+    Kernel {
+        critical: k.critical.saturating_sub(1),
+        ..k
     }
-    next
 }
 
 pub fn pop_all_critical(k: Kernel, c: Call) -> Kernel
     ensures { result ≡ pop_all_critical k c }
 {
-    let mut next = k;
-    next.critical = 0;
-    next
+    Kernel { critical: 0, ..k }
 }

@@ -20,8 +20,7 @@ pub fn with_semaphore(k: Kernel, i: u8, r: Semaphore) -> Kernel
 {
     let mut next = k;
     if i < SEMAPHORE_IDS {
-        let j = i as usize;
-        next.semaphores[j] = r;
+        next.semaphores[i as usize] = r;
     }
     next
 }
@@ -29,25 +28,19 @@ pub fn with_semaphore(k: Kernel, i: u8, r: Semaphore) -> Kernel
 fn with_count(r: Semaphore, n: u16) -> Semaphore
     ensures { result ≡ with_count n r }
 {
-    let mut next = r;
-    next.count = n;
-    next
+    Semaphore { count: n, ..r }
 }
 
 pub fn with_ticks(r: Semaphore, ticks: u32, period: u32) -> Semaphore
     ensures { result ≡ with_ticks ticks period r }
 {
-    let mut next = r;
-    next.ticks = ticks;
-    next.period = period;
-    next
+    Semaphore { ticks, period, ..r }
 }
 
 pub fn create_semaphore(k: Kernel, c: Call) -> Kernel
     ensures { result ≡ create_semaphore k c }
 {
-    let semaphores = k.semaphores;
-    let i = free::free_semaphore(semaphores);
+    let i = free::free_semaphore(k.semaphores);
     let r = Semaphore {
         live: true,
         count: c.b,
@@ -67,41 +60,37 @@ pub fn destroy_semaphore(k: Kernel, c: Call) -> Kernel
 pub fn make_periodic(k: Kernel, c: Call) -> Kernel
     ensures { result ≡ make_periodic k c }
 {
-    let semaphores = k.semaphores;
-    let r = by_id::semaphore_at(semaphores, c.a);
+    let r = by_id::semaphore_at(k.semaphores, c.a);
     with_semaphore(k, c.a, with_ticks(r, c.c, c.d))
 }
 
 pub fn remove_periodic(k: Kernel, c: Call) -> Kernel
     ensures { result ≡ remove_periodic k c }
 {
-    let semaphores = k.semaphores;
-    let r = by_id::semaphore_at(semaphores, c.a);
+    let r = by_id::semaphore_at(k.semaphores, c.a);
     with_semaphore(k, c.a, with_ticks(r, 0, 0))
 }
 
 pub fn pend_semaphore(k: Kernel, c: Call) -> Kernel
     ensures { result ≡ pend_semaphore k c }
 {
-    let semaphores = k.semaphores;
-    let r = by_id::semaphore_at(semaphores, c.a);
+    let r = by_id::semaphore_at(k.semaphores, c.a);
     if 0 < r.count {
-        return with_semaphore(k, c.a, with_count(r, r.count - 1));
+        with_semaphore(k, c.a, with_count(r, r.count - 1))
+    } else {
+        code_threads::block(k, Condition::ForSemaphore(c.a), c.c)
     }
-    code_threads::block(k, Condition::ForSemaphore(c.a), c.c)
 }
 
 // The record after a post: the count stays where a waiter wakes; else it goes up by one, but not past the maximum.
 fn counted(r: Semaphore, wakes: bool) -> Semaphore
     ensures { result ≡ cond wakes r (raised r) }
 {
-    if wakes {
-        return r;
+    if !wakes && r.count < r.maximum {
+        with_count(r, r.count + 1)
+    } else {
+        r
     }
-    if r.count < r.maximum {
-        return with_count(r, r.count + 1);
-    }
-    r
 }
 
 // The first waiter wakes; without waiters the count goes up.
@@ -109,19 +98,15 @@ pub fn post(w: Waiting, i: u8) -> Waiting
     ensures { Does (post i) w result }
 {
     let p = w.threads;
-    let records = p.records;
-    let places = p.places;
-    let semaphores = w.semaphores;
-    let first = firsts::first_at_home(records, places, OF_SEMAPHORES + (i as u16));
+    let first = firsts::first_at_home(p.records, p.places, OF_SEMAPHORES + (i as u16));
     let wakes = first != 255;
-    let next = waiting::stored(w, i, counted(by_id::semaphore_at(semaphores, i), wakes));
+    let next = waiting::stored(w, i, counted(by_id::semaphore_at(w.semaphores, i), wakes));
     if first == 255 {
         return next;
     }
-    let after = next.semaphores;
     Waiting {
         threads: code_threads::woken(p, first, Wake::Met),
-        semaphores: after,
+        ..next
     }
 }
 

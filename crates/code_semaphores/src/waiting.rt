@@ -16,10 +16,11 @@ pub struct Waiting {
 pub fn waiting_of(k: Kernel) -> Waiting
     ensures { result ≡ waiting_of k }
 {
+    // In a variable first: the borrow checker covers no array field that goes straight into a literal.
     let semaphores = k.semaphores;
     Waiting {
         threads: states::threads_of(k),
-        semaphores: semaphores,
+        semaphores,
     }
 }
 
@@ -27,10 +28,12 @@ pub fn waiting_of(k: Kernel) -> Waiting
 pub fn with_waiting(k: Kernel, w: Waiting) -> Kernel
     ensures { result ≡ with_waiting w k }
 {
+    // In a variable first, as above.
     let semaphores = w.semaphores;
-    let mut next = states::with_threads(k, w.threads);
-    next.semaphores = semaphores;
-    next
+    Kernel {
+        semaphores,
+        ..states::with_threads(k, w.threads)
+    }
 }
 
 // Semaphore i gets the record r.
@@ -39,8 +42,7 @@ pub fn stored(w: Waiting, i: u8, r: Semaphore) -> Waiting
 {
     let mut next = w;
     if i < sizes::SEMAPHORE_IDS {
-        let j = i as usize;
-        next.semaphores[j] = r;
+        next.semaphores[i as usize] = r;
     }
     next
 }

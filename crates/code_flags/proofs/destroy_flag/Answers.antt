@@ -8,8 +8,8 @@ use Rattle.code_flags.proofs.destroy_flag.Goals.{Start}
 small : (c : Start) → c.args.k.flags < 2 ^ 16
 small c = c.well_formed.0.1.1.1.1.1.1.1.1.1.1.1.1.1.1.0.1
 
-pub overflow_cast-next : goal.overflow_cast-next
-overflow_cast-next c = record { fits = rw c.without_bit.ensures (without_small _ _ (small (goal.at.overflow_cast-next c).Start)) }
+pub overflow_cast-result : goal.overflow_cast-result
+overflow_cast-result c = record { fits = rw c.without_bit.ensures (without_small _ _ (small (goal.at.overflow_cast-result c).Start)) }
 
 pub returns : goal.returns
 unfolding destroy_flag

@@ -8,8 +8,8 @@ pub returns-then-m : goal.returns-then-m
 unfolding pend_message
 returns-then-m c = rw (eq-eqb _ _ (sym c.next_message-m.ensures ∙ c.if-m.true), c.block.ensures)
 
-pub returns : goal.returns
+pub returns-else-m : goal.returns-else-m
 unfolding pend_message
-returns c =
+returns-else-m c =
     let m = c.next_message-m.ensures in
     rw (ne_eqb _ _ (λ z. c.if-m.false (m ∙ z)), c.receive.ensures, m)

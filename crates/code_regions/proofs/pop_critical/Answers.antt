@@ -1,17 +1,7 @@
--- `code_regions::pop_critical` meets its contract: below 0 there is no level.
-use Prim.Native.Nat.{◌-◌}
-use mathlib.Core.Path.{◌≡◌, refl}
-use native.Mathlib.Omega.{arith}
+-- `code_regions::pop_critical` meets its contract.
 use Rattle.spec_regions.specs.Regions.{pop_critical}
 use Rattle.code_regions.proofs.pop_critical.Goals as goal
 
-pub returns-then-k-gt0 : goal.returns-then-k-gt0
+pub returns : goal.returns
 unfolding pop_critical
-returns-then-k-gt0 c = refl
-
-pub returns-else-k-gt0 : goal.returns-else-k-gt0
-unfolding pop_critical
-returns-else-k-gt0 c =
-    let k = c.args.k in
-    let e : k.critical - 1 ≡ k.critical = omega arith in
-    rw e
+returns c = rw c.saturating_sub.ensures

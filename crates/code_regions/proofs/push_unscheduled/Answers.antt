@@ -1,12 +1,12 @@
 -- `code_regions::push_unscheduled` meets its contract.
-use borrow.Author.Tests.{lt-ltb, le-ltb}
+use Prim.Native.Nat.{◌<◌}
+use native.Mathlib.Omega.{arith}
 use Rattle.spec_regions.specs.Regions.{push_unscheduled}
+use Rattle.code_regions.proofs.Levels.{saturates}
 use Rattle.code_regions.proofs.push_unscheduled.Goals as goal
 
-pub returns-then-k-lt255 : goal.returns-then-k-lt255
+pub returns : goal.returns
 unfolding push_unscheduled
-returns-then-k-lt255 c = rw (lt-ltb c.args.k.unscheduled 255 c.if-k-lt255.true)
-
-pub returns-else-k-lt255 : goal.returns-else-k-lt255
-unfolding push_unscheduled
-returns-else-k-lt255 c = rw (le-ltb c.args.k.unscheduled 255 c.if-k-lt255.false)
+returns c =
+    let fits : c.args.k.unscheduled < 256 = omega arith in
+    rw (c.saturating_add.ensures, saturates _ fits)

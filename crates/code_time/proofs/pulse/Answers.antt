@@ -1,8 +1,6 @@
 -- `code_time::pulse` meets its contract: the period and the ticks left decide.
-use Prim.Native.Nat.{◌-◌}
 use mathlib.Core.Path.{◌≡◌, sym, ap, ◌∙◌}
 use mathlib.Core.Bool.{false}
-use native.Mathlib.Omega.{arith}
 use lib.Dec.{eqb}
 use lib.ListN.{get_or}
 use borrow.Author.Tests.{eq-eqb, ne_eqb}
@@ -10,7 +8,7 @@ use Rattle.spec_kernel.specs.declared.records.Semaphore.{Semaphore}
 use Rattle.spec_kernel.specs.Records.{no_semaphore}
 use Rattle.spec_time.specs.Time.{pulse}
 use Rattle.code_time.proofs.pulse.Goals as goal
-use Rattle.code_time.proofs.pulse.Goals.{After-semaphore_at-r, Joined-r-gt0, then-r-gt0, else-r-gt0}
+use Rattle.code_time.proofs.pulse.Goals.{After-semaphore_at-r}
 
 -- what the semaphore's record says
 abbrev told : After-semaphore_at-r → Semaphore
@@ -24,13 +22,6 @@ ticks c = ap (λ (r : Semaphore). r.ticks) c.semaphore_at-r.ensures
 
 periodic : (c : After-semaphore_at-r) → (c.semaphore_at-r.result.period ≡ 0 → ⊥) → eqb (told c).period 0 ≡ false
 periodic c h = ne_eqb (told c).period 0 (λ z. h (period c ∙ z))
-
--- where the arms meet: below 0 there is no tick
-meets : (c : Joined-r-gt0) → c.if-r-gt0.left ≡ c.semaphore_at-r.result.ticks - 1
-meets c = elim c.if-r-gt0.branch [
-  | then-r-gt0 w ↦ w.left-is
-  | else-r-gt0 w ↦ omega (arith, w.if-r-gt0.false, w.left-is)
-]
 
 pub returns-then-r-eq0 : goal.returns-then-r-eq0
 unfolding pulse
@@ -59,6 +50,6 @@ returns c k =
           (λ z. c.if-r-eq1.false (ticks (goal.at.returns c).After-semaphore_at-r ∙ z)),
       c.stored-2.ensures,
       c.with_ticks-2.ensures,
-      meets (goal.at.returns c).Joined-r-gt0,
+      c.saturating_sub.ensures,
       c.semaphore_at-r.ensures,
     )

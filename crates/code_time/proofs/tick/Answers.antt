@@ -11,7 +11,7 @@ unfolding tick
 returns c =
     let k = c.args.k in
     let after = with_uptime (later k.uptime) k in
-    rw (c.later.ensures, c.with_waiting-next.ensures)
+    rw (c.later.ensures, c.with_waiting.ensures)
     (c.pulses.ensures after
     ∙ ap (λ (p : Threads). pulse_from 0 semaphore_count (with_threads p after))
-    (c.time_passes-threads.ensures ∙ ap time_passes c.threads_of.ensures))
+    (c.time_passes.ensures ∙ ap time_passes c.threads_of.ensures))

@@ -20,6 +20,6 @@ pub returns-then-r-gt0 : goal.returns-then-r-gt0
 unfolding pend_semaphore
 returns-then-r-gt0 c = rw (lt-ltb 0 (counted (goal.at.returns-then-r-gt0 c).After-semaphore_at-r) (omega (arith, count (goal.at.returns-then-r-gt0 c).After-semaphore_at-r)), c.with_semaphore.ensures, c.with_count.ensures, c.semaphore_at-r.ensures)
 
-pub returns : goal.returns
+pub returns-else-r-gt0 : goal.returns-else-r-gt0
 unfolding pend_semaphore
-returns c = rw (le-ltb 0 (counted (goal.at.returns c).After-semaphore_at-r) (omega (arith, count (goal.at.returns c).After-semaphore_at-r)), c.block.ensures)
+returns-else-r-gt0 c = rw (le-ltb 0 (counted (goal.at.returns-else-r-gt0 c).After-semaphore_at-r) (omega (arith, count (goal.at.returns-else-r-gt0 c).After-semaphore_at-r)), c.block.ensures)

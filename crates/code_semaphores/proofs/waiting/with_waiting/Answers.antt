@@ -2,4 +2,4 @@
 use Rattle.code_semaphores.proofs.waiting.with_waiting.Goals as goal
 
 pub returns : goal.returns
-returns c = rw c.with_threads-next.ensures
+returns c = rw c.with_threads.ensures
