@@ -7,7 +7,7 @@ ghost use Rattle.spec_notes.specs.Predicted.{predicted_message};
 ghost use Rattle.spec_notes.specs.Touched.{same_message};
 
 use base_rows::rows::Row;
-use code_notes_entries::choices::{either, word};
+use code_notes_entries::choices::word;
 use code_notes_entries::fields::same_rows;
 use spec_calls::call::Call;
 use spec_kernel::records::Message;
@@ -91,7 +91,7 @@ pub fn predicted(c: Call, runner: u8, r: Message) -> Row
             r.size,
             r.address,
             0,
-            either(c.kind == 27, 0, 255),
+            if c.kind == 27 { 0 } else { 255 },
         ],
     }
 }

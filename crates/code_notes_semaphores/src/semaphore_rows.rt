@@ -6,7 +6,7 @@ ghost use Rattle.spec_notes.specs.Predicted.{count_before, predicted_semaphore};
 ghost use Rattle.spec_notes.specs.Touched.{ticks_before_pulse, count_before_pulse, younger_semaphore, same_semaphore};
 
 use base_rows::rows::Row;
-use code_notes_entries::choices::{either, word};
+use code_notes_entries::choices::word;
 use code_notes_entries::fields::same_rows;
 use spec_calls::call::Call;
 use spec_kernel::records::Semaphore;
@@ -74,7 +74,7 @@ pub fn predicted(c: Call, r: Semaphore) -> Row
             1,
             count_before(c, r) as u32,
             r.maximum as u32,
-            either(c.kind == 1, 1, r.ticks),
+            if c.kind == 1 { 1 } else { r.ticks },
             r.period,
             0,
             0,
