@@ -24,13 +24,11 @@ pub fn undo_kept(k: Kernel, log: &[u8], used: usize) -> Logged
 pub fn reaching(l: Logged, undone: usize) -> Reached
     ensures { result ≡ reached l undone }
 {
-    let kernel = l.kernel;
-    let answer = l.answer;
     Reached {
-        kernel: kernel,
-        answer: answer,
+        kernel: l.kernel,
+        answer: l.answer,
         used: l.used,
-        undone: undone,
+        undone,
     }
 }
 
@@ -45,16 +43,13 @@ pub fn undo_many_kept(k: Kernel, log: &[u8], used: usize, n: usize) -> Reached
             value: 255,
             runner: k.runner,
         },
-        used: used,
+        used,
     };
-    let mut i: usize = 0;
-    while i < n {
-        let state = l.kernel;
-        l = undo_kept(state, log, l.used);
+    for i in 0..n {
+        l = undo_kept(l.kernel, log, l.used);
         if l.answer.number != 0 {
             return reaching(l, i);
         }
-        i += 1;
     }
-    reaching(l, i)
+    reaching(l, n)
 }

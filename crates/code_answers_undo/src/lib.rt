@@ -10,7 +10,6 @@ ghost use Rattle.spec_notes.specs.Frames.{sections_at};
 ghost use Rattle.spec_answers.specs.Steps.{answer};
 ghost use Rattle.spec_answers.specs.Logs.{logged};
 
-use base_bytes::bytes::same_bytes;
 use code_answers::{recorded, refused};
 use code_calls::call;
 use code_notes::note::MOST;
@@ -35,10 +34,7 @@ fn speaks_of(s: &[u8], i: usize) -> bool
 fn may_differ(c: Call, kind: u8, s: &[u8], i: usize) -> bool
     ensures { result ≡ (is c kind || not (is_empty (get_or (sections_at section_count s.now) i []))) }
 {
-    if c.kind == kind {
-        return true;
-    }
-    speaks_of(s, i)
+    c.kind == kind || speaks_of(s, i)
 }
 
 // Which tables may be others than in the end state: those that the note speaks of, those that time ages where it passes, and the flags
@@ -64,18 +60,9 @@ fn yields_again(old: Kernel, bytes: [u8; 16], end: Kernel, note: &[u8], asked: A
     }
     let mut again = [0u8; MOST];
     let l = recorded(old, bytes, &mut again, 0);
-    if l.answer.number != 0 {
-        return false;
-    }
-    let n = l.used;
-    if n != note.len() {
-        return false;
-    }
-    if !same_bytes(note, 0, &again[..n]) {
-        return false;
-    }
-    let kernel = l.kernel;
-    code_notes_same::same_asked(kernel, end, asked)
+    l.answer.number == 0
+        && &again[..l.used] == note
+        && code_notes_same::same_asked(l.kernel, end, asked)
 }
 
 // The note undone on a state that is known to keep its rules: the earlier state, with what was used of the log before the note, or 15.
@@ -105,7 +92,7 @@ pub fn undo_note(k: Kernel, note: &[u8], before: usize, used: usize) -> Logged
             value: 255,
             runner: kernel.runner,
         },
-        kernel: kernel,
+        kernel,
         used: before,
     }
 }

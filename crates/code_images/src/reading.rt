@@ -6,7 +6,7 @@ ghost use Rattle.spec_images.specs.OnImages.{holds_image, state_at};
 ghost use Rattle.spec_kernel.specs.Records.{fresh};
 
 use crate::writing::{LONGEST, no_call, put_image};
-use base_bytes::bytes::{byte_at, number_at, same_bytes};
+use base_bytes::bytes::{byte_at, number_at};
 use code_kernel::records::fresh;
 use code_moves::states;
 use code_notes_back::state_back::{posts_back, threads_back};
@@ -22,10 +22,7 @@ use spec_moves::parts::Posts;
 fn behind(s: &[u8], n: usize) -> &[u8]
     ensures { result.now ≡ drop n s.now }
 {
-    if s.len() < n {
-        return &s[s.len()..];
-    }
-    &s[n..]
+    &s[n.min(s.len())..]
 }
 
 // The flags that a section tells, in its first two bytes.
@@ -44,30 +41,24 @@ fn state_in(s: &[u8]) -> Kernel
     let events = section_of(all, frames::EVENTS_AT);
     let none = fresh();
     let c = no_call();
-    let messages = none.messages;
-    let posted = none.posted;
+    let records = none.messages;
     let posts = Posts {
-        records: messages,
-        posted: posted,
+        records,
+        posted: none.posted,
     };
     let nobody = states::threads_of(none);
     let t = threads_back(c, nobody, section_of(all, frames::THREADS_AT));
     let m = posts_back(c, 255, posts, section_of(all, frames::MESSAGES_AT));
-    let semaphores = none.semaphores;
-    let usual = none.events;
     let threads = t.records;
-    let places = t.places;
-    let time = t.time;
-    let records = m.records;
-    let queue = m.posted;
+    let messages = m.records;
     Kernel {
-        threads: threads,
-        semaphores: semaphores_before(c, semaphores, section_of(all, frames::SEMAPHORES_AT)),
-        events: events_before(usual, behind(events, 4)),
-        messages: records,
-        places: places,
-        time: time,
-        posted: queue,
+        threads,
+        semaphores: semaphores_before(c, none.semaphores, section_of(all, frames::SEMAPHORES_AT)),
+        events: events_before(none.events, behind(events, 4)),
+        messages,
+        places: t.places,
+        time: t.time,
+        posted: m.posted,
         bits: number_at(events, 0, 4),
         uptime: number_at(scheduler, 0, 4),
         unscheduled: byte_at(scheduler, 4),
@@ -81,9 +72,8 @@ fn state_in(s: &[u8]) -> Kernel
 fn nothing() -> Recalled
     ensures { result ≡ recalled 16 fresh }
 {
-    let none = fresh();
     Recalled {
-        kernel: none,
+        kernel: fresh(),
         number: 16,
     }
 }
@@ -98,10 +88,7 @@ pub fn read(s: &[u8]) -> Recalled
     }
     let mut again = [0u8; LONGEST];
     let n = put_image(&mut again, k);
-    if n != s.len() {
-        return nothing();
-    }
-    if !same_bytes(s, 0, &again[..n]) {
+    if &again[..n] != s {
         return nothing();
     }
     Recalled {

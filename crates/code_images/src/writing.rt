@@ -69,12 +69,10 @@ fn put_thread_part(log: &mut [u8], at: usize, k: Kernel) -> usize
     ensures { pen log.new result ≡ puts (pen log.old at) (section (threads_stored k)) }
 {
     let records = k.threads;
-    let places = k.places;
-    let time = k.time;
     let all = Threads {
-        records: records,
-        places: places,
-        time: time,
+        records,
+        places: k.places,
+        time: k.time,
     };
     let none = fresh().threads;
     let mut scratch = [0u8; THREAD_BYTES];
@@ -94,14 +92,13 @@ fn put_thread_part(log: &mut [u8], at: usize, k: Kernel) -> usize
 fn put_semaphore_part(log: &mut [u8], at: usize, k: Kernel) -> usize
     ensures { pen log.new result ≡ puts (pen log.old at) (section (semaphores_stored k)) }
 {
-    let all = k.semaphores;
     let none = fresh().semaphores;
     let mut scratch = [0u8; SEMAPHORE_BYTES];
     let n = semaphore_notes::put_semaphores(
         &mut scratch,
         0,
         no_call(),
-        all,
+        k.semaphores,
         none,
         0,
         sizes::SEMAPHORE_IDS,
@@ -113,11 +110,10 @@ fn put_semaphore_part(log: &mut [u8], at: usize, k: Kernel) -> usize
 fn put_event_part(log: &mut [u8], at: usize, k: Kernel) -> usize
     ensures { pen log.new result ≡ puts (pen log.old at) (section (events_stored k)) }
 {
-    let all = k.events;
     let none = fresh().events;
     let mut scratch = [0u8; EVENT_BYTES];
     let p = pens::put_number(&mut scratch, 0, 4, k.bits);
-    let n = event_notes::put_events(&mut scratch, p, all, none, 0, sizes::EVENT_IDS);
+    let n = event_notes::put_events(&mut scratch, p, k.events, none, 0, sizes::EVENT_IDS);
     put_section(log, at, &scratch[..n])
 }
 
@@ -133,10 +129,9 @@ fn put_message_part(log: &mut [u8], at: usize, k: Kernel) -> usize
     ensures { pen log.new result ≡ puts (pen log.old at) (section (messages_stored k)) }
 {
     let records = k.messages;
-    let posted = k.posted;
     let all = Posts {
-        records: records,
-        posted: posted,
+        records,
+        posted: k.posted,
     };
     let none = fresh().messages;
     let mut scratch = [0u8; MESSAGE_BYTES];

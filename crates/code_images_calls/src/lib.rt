@@ -22,9 +22,9 @@ fn left(answer: Answer, length: usize, used: usize) -> Stored
     ensures { result ≡ stored answer length used }
 {
     Stored {
-        answer: answer,
-        length: length,
-        used: used,
+        answer,
+        length,
+        used,
     }
 }
 
@@ -47,7 +47,7 @@ fn no_room(runner: u8, length: usize, used: usize) -> Stored
     let none = Answer {
         number: 13,
         value: 255,
-        runner: runner,
+        runner,
     };
     left(none, length, used)
 }
@@ -56,10 +56,7 @@ fn no_room(runner: u8, length: usize, used: usize) -> Stored
 fn has_room(log: &[u8], used: usize, size: usize) -> bool
     ensures { result ≡ leb (used + size) (length log.now) }
 {
-    if log.len() < used {
-        return false;
-    }
-    size <= log.len() - used
+    used <= log.len() && size <= log.len() - used
 }
 
 // The call on the state whose image is in the room. Its note is made beside the log, which is written last, when the image has found room.
@@ -85,8 +82,7 @@ fn call_on_state(
     if !has_room(log, used, size) {
         return no_room(k.runner, length, used);
     }
-    let next = l.kernel;
-    let n = writing::put_whole(next, room);
+    let n = writing::put_whole(l.kernel, room);
     if n == 0 {
         return no_room(k.runner, length, used);
     }
@@ -110,8 +106,7 @@ pub fn called_on(
     if old.number != 0 {
         return damaged(length, used);
     }
-    let k = old.kernel;
-    call_on_state(k, room, length, bytes, log, used)
+    call_on_state(old.kernel, room, length, bytes, log, used)
 }
 
 // The undo on the state whose image is in the room.
@@ -123,8 +118,7 @@ fn undo_on_state(k: Kernel, room: &mut [u8], length: usize, log: &[u8], used: us
     if l.answer.number != 0 {
         return left(l.answer, length, used);
     }
-    let before = l.kernel;
-    let back = writing::put_whole(before, room);
+    let back = writing::put_whole(l.kernel, room);
     if back == 0 {
         return no_room(k.runner, length, used);
     }
@@ -140,6 +134,5 @@ pub fn undo_on(room: &mut [u8], length: usize, log: &[u8], used: usize) -> Store
     if end.number != 0 {
         return damaged(length, used);
     }
-    let k = end.kernel;
-    undo_on_state(k, room, length, log, used)
+    undo_on_state(end.kernel, room, length, log, used)
 }

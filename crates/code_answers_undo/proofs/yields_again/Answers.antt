@@ -1,11 +1,13 @@
 -- `code_answers_undo::yields_again` meets its contract: each way out says which part of "yields this end state and this note" fails.
 use Prim.Native.Nat.{ℕ, ◌≤◌}
 use mathlib.Core.Path.{◌≡◌, sym, ◌∙◌}
-use mathlib.Core.Bool.{true, false}
+use mathlib.Core.Bool.{Bool, true, false, true≢false}
 use mathlib.Core.List.{List}
+use lib.Dec.{eqb}
 use lib.ListN.{length, take}
+use lib.Pointwise.{pointwise}
+use borrow.Author.Tests.{ne_eqb}
 use lib.Seq.{length-take-le}
-use Rattle.base_bytes.specs.Bytes.{begins}
 use Rattle.spec_kernel.specs.declared.records.Kernel.{Kernel}
 use Rattle.spec_rules.specs.declared.tests.Asked.{Asked}
 use Rattle.spec_rules.specs.Tests.{keeps_asked}
@@ -15,9 +17,9 @@ use Rattle.spec_notes.specs.Touched.{same_row}
 use Rattle.spec_answers.specs.Logs.{state_after, note_for}
 use Rattle.code_answers_undo.proofs.Again.{run_refused, run_accepted, run_next, note_stands}
 use Rattle.code_answers_undo.proofs.Again.{again_broken, again_refused, again-other, again-same}
-use Rattle.spec_notes.proofs.Compared.{begins_same, other_length_lem}
+use Rattle.code_notes_same.proofs.Pairs.{row_pairs}
 use Rattle.code_answers_undo.proofs.yields_again.Goals as goal
-use Rattle.code_answers_undo.proofs.yields_again.Goals.{After-recorded-l, After-same_bytes}
+use Rattle.code_answers_undo.proofs.yields_again.Goals.{After-recorded-l, then-l-eq0, else-l-eq0}
 
 pub returns-then-not-keeps_asked : goal.returns-then-not-keeps_asked
 returns-then-not-keeps_asked c =
@@ -49,13 +51,6 @@ tested c = let t = c.keeps_asked in sym t.ensures ∙ c.if-not-keeps_asked.false
 sixteen : (c : After-recorded-l) → length (bytes₀ c) ≡ 16
 sixteen c = c.well_formed.1.0.1.0.1
 
-pub returns-then-l-ne0 : goal.returns-then-l-ne0
-returns-then-l-ne0 c =
-    let r = (goal.at.returns-then-l-ne0 c).After-recorded-l in
-    λ l.
-    again_refused (asked₀ r) (old₀ r) (bytes₀ r) (end₀ r) (note₀ r) l (tested r)
-    (run_refused (old₀ r) (bytes₀ r) (sixteen r) _ c.recorded-l.ensures.result c.if-l-ne0.true)
-
 -- where it answers 0: it was accepted, the next state, and that the note stands in front
 ran : (c : After-recorded-l) → c.recorded-l.result.answer.number ≡ 0
     → let l = c.recorded-l.result in
@@ -72,44 +67,46 @@ ran c z =
       w,
     )
 
-pub returns-then-n-note : goal.returns-then-n-note
-returns-then-n-note c =
-    let r = (goal.at.returns-then-n-note c).After-recorded-l in
-    λ l.
-    let (n, _, _, _, w) = ran r c.if-l-ne0.false in
-    again-other (asked₀ r) (old₀ r) (bytes₀ r) (end₀ r) (note₀ r) l (tested r) n
-    (other_length_lem (note_for (old₀ r) (bytes₀ r)) (note₀ r) (λ h. c.if-n-note.true (w ∙ h)))
-
 pub slice_bounds-again-end : goal.slice_bounds-again-end
-slice_bounds-again-end c = (ran (goal.at.slice_bounds-again-end c).After-recorded-l c.if-l-ne0.false).2
+slice_bounds-again-end c = (ran (goal.at.slice_bounds-again-end c).After-recorded-l c.if-l-eq0.true).2
 
-pub slice_bounds-same_bytes-end : goal.slice_bounds-same_bytes-end
-slice_bounds-same_bytes-end c = sym (length-take-le _ _ (ran (goal.at.slice_bounds-same_bytes-end c).After-recorded-l c.if-l-ne0.false).2)
+pub slice_bounds-eq-end : goal.slice_bounds-eq-end
+slice_bounds-eq-end c = sym (length-take-le _ _ (ran (goal.at.slice_bounds-eq-end c).After-recorded-l c.if-l-eq0.true).2)
 
--- which says whether its note is the one that was given
-compared : (c : After-same_bytes)
-    → (let note = note_for c.args.old c.args.bytes in
-    take c.recorded-l.result.used c.recorded-l.new.log ≡ note → c.recorded-l.result.used ≡ length note
-    → c.same_bytes.result ≡ same_row note c.args.note.now)
-compared c t w =
-    let note = note_for c.args.old c.args.bytes in
-    let told = c.args.note.now in
-    let b : begins (take c.recorded-l.result.used c.recorded-l.new.log) told ≡ begins note told = rw t in
-    c.same_bytes.ensures ∙ b ∙ begins_same note told (sym w ∙ c.if-n-note.false)
+-- what `==` says of its note and the one that was given
+compared : (c : After-recorded-l) → c.recorded-l.result.answer.number ≡ 0
+    → (r : Bool) → r ≡ pointwise eqb (take c.recorded-l.result.used c.recorded-l.new.log) (note₀ c)
+    → r ≡ same_row (note_for (old₀ c) (bytes₀ c)) (note₀ c)
+compared c z r e =
+    let (_, _, _, t, _) = ran c z in
+    e ∙ row_pairs (take c.recorded-l.result.used c.recorded-l.new.log) (note₀ c) ∙ rw t
 
-pub returns-then-not-same_bytes : goal.returns-then-not-same_bytes
-returns-then-not-same_bytes c =
-    let r = (goal.at.returns-then-not-same_bytes c).After-recorded-l in
+pub returns-then-eq : goal.returns-then-eq
+returns-then-eq c =
+    let r = (goal.at.returns-then-eq c).After-recorded-l in
     λ l.
-    let (n, _, _, t, w) = ran r c.if-l-ne0.false in
-    again-other (asked₀ r) (old₀ r) (bytes₀ r) (end₀ r) (note₀ r) l (tested r) n
-    (sym (sym (compared (goal.at.returns-then-not-same_bytes c).After-same_bytes t w) ∙ c.if-not-same_bytes.true))
+    elim c.if-l-eq0.branch [
+      | then-l-eq0 w ↦
+          let (n, e, _, _, _) = ran r w.if-l-eq0.true in
+          c.same_asked.ensures
+          ∙ again-same (asked₀ r) (old₀ r) (bytes₀ r) (end₀ r) (note₀ r) l (tested r) n
+          (sym c.if-eq.true ∙ w.value-is ∙ compared r w.if-l-eq0.true w.eq.result w.eq.ensures) _ e
+      | else-l-eq0 w ↦
+          let f : eqb c.recorded-l.result.answer.number 0 ≡ false = ne_eqb c.recorded-l.result.answer.number 0 w.if-l-eq0.false in
+          absurd (true≢false (sym c.if-eq.true ∙ w.value-is ∙ f))
+    ]
 
-pub returns : goal.returns
-returns c =
-    let r = (goal.at.returns c).After-recorded-l in
+pub returns-else-eq : goal.returns-else-eq
+returns-else-eq c =
+    let r = (goal.at.returns-else-eq c).After-recorded-l in
     λ l.
-    let (n, e, _, t, w) = ran r c.if-l-ne0.false in
-    c.same_asked.ensures
-    ∙ again-same (asked₀ r) (old₀ r) (bytes₀ r) (end₀ r) (note₀ r) l (tested r) n
-    (sym (sym (compared (goal.at.returns c).After-same_bytes t w) ∙ c.if-not-same_bytes.false)) _ e
+    c.if-eq.false
+    ∙ elim c.if-l-eq0.branch [
+      | then-l-eq0 w ↦
+          let (n, _, _, _, _) = ran r w.if-l-eq0.true in
+          again-other (asked₀ r) (old₀ r) (bytes₀ r) (end₀ r) (note₀ r) l (tested r) n
+          (sym c.if-eq.false ∙ w.value-is ∙ compared r w.if-l-eq0.true w.eq.result w.eq.ensures)
+      | else-l-eq0 w ↦
+          again_refused (asked₀ r) (old₀ r) (bytes₀ r) (end₀ r) (note₀ r) l (tested r)
+          (run_refused (old₀ r) (bytes₀ r) (sixteen r) _ c.recorded-l.ensures.result w.if-l-eq0.false)
+    ]

@@ -4,4 +4,4 @@ use Rattle.spec_images.specs.Images.{recalled}
 use Rattle.code_images.proofs.reading.nothing.Goals as goal
 
 pub returns : goal.returns
-returns c = ap (recalled 16) c.fresh-none.ensures
+returns c = ap (recalled 16) c.fresh.ensures

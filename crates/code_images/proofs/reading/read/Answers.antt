@@ -1,11 +1,12 @@
 -- `code_images::reading::read` meets its contract: each way out says which test of an image fails.
 use Prim.Native.Nat.{ℕ}
 use mathlib.Core.Path.{◌≡◌, ap, sym, ◌∙◌}
-use mathlib.Core.Bool.{Bool, true}
+use mathlib.Core.Bool.{true}
 use mathlib.Core.List.{List}
-use native.Mathlib.Omega.{arith}
-use lib.ListN.{length, take, replicate}
-use Rattle.base_bytes.specs.Bytes.{begins}
+use lib.Dec.{eqb}
+use lib.ListN.{take, replicate}
+use lib.Pointwise.{pointwise}
+use borrow.Author.Tests.{not-true, not-false}
 use Rattle.base_bytes.specs.Pens.{pen, puts}
 use Rattle.spec_kernel.specs.declared.records.Kernel.{Kernel}
 use Rattle.spec_rules.specs.Tests.{keeps_rules}
@@ -13,8 +14,7 @@ use Rattle.spec_notes.specs.Touched.{same_row}
 use Rattle.code_notes.proofs.ScratchParts.{Held, held_length, held}
 use Rattle.spec_images.specs.Images.{image_of, longest_image, state_in, recalled}
 use Rattle.spec_images.proofs.Lengths.{image_short}
-use Rattle.code_images.proofs.ImageRead.{read_broken, read_other, read_same}
-use Rattle.spec_notes.proofs.Compared.{begins_same, other_length_lem}
+use Rattle.code_images.proofs.ImageRead.{read_broken, read_other, read_same, row_pairs}
 use Rattle.code_images.proofs.reading.read.Goals as goal
 use Rattle.code_images.proofs.reading.read.Goals.{After-put_image-n}
 
@@ -42,34 +42,24 @@ again c =
     held (image_short (state_in (bytes_of c)))
     (c.put_image-n.ensures ∙ ap (λ (k : Kernel). puts (pen (replicate longest_image 0) 0) (image_of k)) c.state_in-k.ensures)
 
-as_long : (c : After-put_image-n) → c.put_image-n.result ≡ length (told c)
-as_long c = held_length (again c) ∙ ap length (again c).bytes
-
-pub returns-then-n-s : goal.returns-then-n-s
-returns-then-n-s c =
-    let r = (goal.at.returns-then-n-s c).After-put_image-n in
-    c.nothing-then-n-s.ensures
-    ∙ read_other (bytes_of r) (kept r) (sym (other_length_lem (told r) (bytes_of r) (λ h. omega (arith, c.if-n-s.true, as_long r, h))))
-
 pub slice_bounds-again-end : goal.slice_bounds-again-end
 slice_bounds-again-end c = (again (goal.at.slice_bounds-again-end c).After-put_image-n).within
 
-pub slice_bounds-same_bytes-end : goal.slice_bounds-same_bytes-end
-slice_bounds-same_bytes-end c = held_length (again (goal.at.slice_bounds-same_bytes-end c).After-put_image-n)
+pub slice_bounds-ne-end : goal.slice_bounds-ne-end
+slice_bounds-ne-end c = held_length (again (goal.at.slice_bounds-ne-end c).After-put_image-n)
 
-compared : (c : After-put_image-n) (r : Bool) → r ≡ begins (take c.put_image-n.result c.put_image-n.new.room) (bytes_of c)
-    → (c.put_image-n.result ≡ length (bytes_of c)) → r ≡ same_row (told c) (bytes_of c)
-compared c r e n =
-    e ∙ ap (λ b. begins b (bytes_of c)) (again c).bytes ∙ begins_same (told c) (bytes_of c) (sym (as_long c) ∙ n)
+compared : (c : After-put_image-n)
+    → pointwise eqb (take c.put_image-n.result c.put_image-n.new.room) (bytes_of c) ≡ same_row (told c) (bytes_of c)
+compared c = row_pairs _ (bytes_of c) ∙ ap (λ b. same_row b (bytes_of c)) (again c).bytes
 
-pub returns-then-not-same_bytes : goal.returns-then-not-same_bytes
-returns-then-not-same_bytes c =
-    let r = (goal.at.returns-then-not-same_bytes c).After-put_image-n in
-    c.nothing-then-not-same_bytes.ensures
-    ∙ read_other (bytes_of r) (kept r) (sym (compared r _ c.same_bytes.ensures c.if-n-s.false) ∙ c.if-not-same_bytes.true)
+pub returns-then-ne : goal.returns-then-ne
+returns-then-ne c =
+    let r = (goal.at.returns-then-ne c).After-put_image-n in
+    c.nothing-then-ne.ensures
+    ∙ read_other (bytes_of r) (kept r) (sym (compared r) ∙ not-true _ (sym c.ne.ensures ∙ c.if-ne.true))
 
 pub returns : goal.returns
 returns c =
     let r = (goal.at.returns c).After-put_image-n in
     ap (recalled 0) c.state_in-k.ensures
-    ∙ read_same (bytes_of r) (kept r) (sym (compared r _ c.same_bytes.ensures c.if-n-s.false) ∙ c.if-not-same_bytes.false)
+    ∙ read_same (bytes_of r) (kept r) (sym (compared r) ∙ not-false _ (sym c.ne.ensures ∙ c.if-ne.false))
