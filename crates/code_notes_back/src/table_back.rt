@@ -18,16 +18,14 @@ pub fn put_back_all(q: Queue, out: [u8; CAPACITY], at: [u8; CAPACITY]) -> Queue
 fn kept(q: Queue, out: &[u8; CAPACITY]) -> Queue
     ensures { result ≡ pack (keep (λ x. eqb (get_or out.now x 0) 0) (items q)) }
 {
-    let mut at = [0; CAPACITY];
-    let mut n = 0;
+    let mut rest = base_queue::empty();
     for x in q.members() {
         let stays = byte_at(out, *x as usize) == 0;
         if stays {
-            at[n] = *x;
-            n += 1;
+            rest.push(*x);
         }
     }
-    Queue { n: n as u8, at }
+    rest
 }
 
 // Place by place: the noted member of that place, or else the next one that stayed; with neither, the end.

@@ -125,15 +125,13 @@ fn freed_records(messages: [Message; sizes::MESSAGES], t: u8) -> [Message; sizes
 fn freed_posts(messages: [Message; sizes::MESSAGES], posted: Queue, t: u8) -> Queue
     ensures { result ≡ pack (keep (λ m. not (owns t (get_or messages m no_message))) (items posted)) }
 {
-    let mut a = [0u8; CAPACITY];
-    let mut n: usize = 0;
+    let mut rest = base_queue::empty();
     for &m in posted.members() {
         if !owns(t, record_at(&messages, m as usize, no_message())) {
-            a[n] = m;
-            n += 1;
+            rest.push(m);
         }
     }
-    Queue { n: n as u8, at: a }
+    rest
 }
 
 fn free_messages(k: Kernel, t: u8) -> Kernel

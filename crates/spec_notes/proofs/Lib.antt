@@ -3,7 +3,6 @@ pub mod Limits
 pub mod AnyNote
 pub mod EntriesShort
 pub mod RecordsBack
-pub mod Compared
 pub mod RowsBack
 pub mod EventsBack
 pub mod FlagsBack

@@ -1,6 +1,6 @@
--- `code_threads::freed_posts` meets its contract: a holds those of the members passed that t doesn't own, and n says how many they are.
+-- `code_threads::freed_posts` meets its contract: the rest is those of the members passed that t doesn't own.
 use Prim.Native.Nat.{◌+◌, ◌≤◌}
-use mathlib.Core.Path.{◌≡◌, sym}
+use mathlib.Core.Path.{◌≡◌}
 use mathlib.Core.Bool.{not, cond}
 use mathlib.Core.List.{[], ◌∷◌, ◌++◌, append-nil}
 use native.Mathlib.Omega.{arith}
@@ -8,7 +8,7 @@ use lib.ListN.{length, get_or, length-append}
 use borrow.Author.Rules.{rules}
 use Rattle.base_queue.specs.Queues.{capacity}
 use Rattle.base_queue.proofs.Lists.{keep_next}
-use Rattle.base_queue.proofs.Queues.{length_items, pad_push}
+use Rattle.base_queue.proofs.Queues.{length_items, pushed_on}
 use Rattle.code_threads.proofs.freed_posts.Invariants.{kept, stays}
 use Rattle.code_threads.proofs.freed_posts.Goals as goal
 use Rattle.code_threads.proofs.freed_posts.Goals.{After-owns, then-not-owns, else-not-owns}
@@ -31,15 +31,13 @@ loop-m-preserved c =
     let all = c.members-m-items.result.now in
     let room : length all ≤ capacity = rw l.invariant.0 (length_items a.posted (search rules)) in
     let n = goes_on (goal.at.loop-m-preserved c).After-owns in
+    let i = l.invariant in
     elim c.if-not-owns.branch [
       | then-not-owns w ↦
-          let e = rw w.if-not-owns.true at n in (
-            l.invariant.0,
-            omega arith,
-            rw (w.n-is, e, length-append) (omega arith),
-            rw (w.a-is, e, l.invariant.3) (pad_push (kept a.messages a.t all l.m-index) l.n _ (sym l.invariant.2) (omega arith)),
-          )
+          let e = rw w.if-not-owns.true at n in
+          let p = pushed_on (kept a.messages a.t all l.m-index) _ _ i.2 _ (omega arith) w.push.ensures in
+          (i.0, rw (e, length-append) (omega arith), rw (w.rest-is, e) p)
       | else-not-owns w ↦
-          let e = rw w.if-not-owns.false at n in
-          (l.invariant.0, omega arith, rw (w.n-is, e, append-nil) l.invariant.2, rw (w.a-is, e, append-nil) l.invariant.3)
+          let e = rw (w.if-not-owns.false, append-nil) at n in
+          (i.0, rw e (omega arith), rw (w.rest-is, e) i.2)
     ]

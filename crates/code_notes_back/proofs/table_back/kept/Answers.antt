@@ -1,6 +1,6 @@
--- `code_notes_back::table_back::kept` meets its contract: the store holds those of the members passed that nobody touched, n of them.
+-- `code_notes_back::table_back::kept` meets its contract: the rest is those of the members passed that nobody touched.
 use Prim.Native.Nat.{ℕ}
-use mathlib.Core.Path.{◌≡◌, refl, sym}
+use mathlib.Core.Path.{◌≡◌}
 use mathlib.Core.Bool.{true, false}
 use mathlib.Core.List.{List, append-nil}
 use native.Mathlib.Omega.{arith}
@@ -11,7 +11,7 @@ use borrow.Author.Tests.{eq-eqb, ne_eqb}
 use Rattle.base_queue.specs.Lists.{keep}
 use Rattle.base_queue.specs.Queues.{capacity}
 use Rattle.base_queue.proofs.Lists.{keep_next}
-use Rattle.base_queue.proofs.Queues.{length_items, pad_push, queue_eq}
+use Rattle.base_queue.proofs.Queues.{length_items, pushed_on}
 use Rattle.code_notes_back.proofs.Merging.{untouched}
 use Rattle.code_notes_back.proofs.table_back.kept.Goals as goal
 use Rattle.code_notes_back.proofs.table_back.kept.Goals.{then-stays, else-stays}
@@ -20,11 +20,12 @@ pub loop-x-init : goal.loop-x-init
 loop-x-init c =
     let q = c.args.q in
     let e : length q.at ≡ capacity = search rules in
-    (rw c.members-x-items.ensures (length_items q e), omega arith, refl, refl)
+    (rw c.members-x-items.ensures (length_items q e), omega arith, c.empty-rest.ensures)
 
 pub loop-x-preserved : goal.loop-x-preserved
 loop-x-preserved c =
     let l = c.loop-x in
+    let i = l.invariant in
     let xs : List ℕ = c.members-x-items.result.now in
     let x : ℕ = get_or xs l.x-index 0 in
     let stays = untouched c.args.out.now in
@@ -33,17 +34,16 @@ loop-x-preserved c =
       | then-stays w ↦
           let t : stays x ≡ true = rw c.byte_at-stays.ensures at (eq-eqb _ _ w.if-stays.true) in
           let e = rw t at next in
-          let p = pad_push (keep stays (take l.x-index xs)) l.n x (sym l.invariant.2) (omega arith) in
-          (l.invariant.0, omega arith, rw (w.n-is, e, length-append) (omega arith), rw (w.at-is, e, l.invariant.3) p)
+          let p = pushed_on (keep stays (take l.x-index xs)) _ _ i.2 _ (omega arith) w.push.ensures in
+          (i.0, rw (e, length-append) (omega arith), rw (w.rest-is, e) p)
       | else-stays w ↦
           let t : stays x ≡ false = rw c.byte_at-stays.ensures at (ne_eqb _ _ w.if-stays.false) in
           let e = rw (t, append-nil) at next in
-          (l.invariant.0, omega arith, rw (w.n-is, e) l.invariant.2, rw (w.at-is, e) l.invariant.3)
+          (i.0, rw e (omega arith), rw (w.rest-is, e) i.2)
     ]
 
 pub returns : goal.returns
 returns c =
     let l = c.loop-x in
     let xs : List ℕ = c.members-x-items.result.now in
-    let e = take_all l.x-index xs c.loop-x-test.false in
-    rw (← c.members-x-items.ensures) (queue_eq (rw e at l.invariant.2) (rw e at l.invariant.3))
+    rw (← c.members-x-items.ensures) (rw (take_all l.x-index xs c.loop-x-test.false) at l.invariant.2)
