@@ -30,96 +30,68 @@ struct Total {
 fn forward(s: &[u8], log: &mut [u8; 1048576]) -> Run
     ensures { Rules result.kernel }
 {
-    let mut k = replay::fresh();
-    let mut used: usize = 0;
-    let mut at: usize = 0;
-    while 16 <= s.len() - at {
-        let l = replay::recorded(k, replay::call_bytes(&s[at..]), log, used);
-        k = l.kernel;
-        used = l.used;
-        at += 16;
+    let mut run = Run {
+        kernel: replay::fresh(),
+        used: 0,
+    };
+    for bytes in s.as_chunks::<16>().0 {
+        let l = replay::recorded(run.kernel, *bytes, log, run.used);
+        run.kernel = l.kernel;
+        run.used = l.used;
     }
-    Run {
-        kernel: k,
-        used: used,
-    }
+    run
 }
 
-// One where the state is the fresh one.
-fn one_if_fresh(k: Kernel) -> u64 {
-    if replay::same_kernel(k, replay::fresh()) {
-        1
-    } else {
-        0
+// A round that undid so many notes and ended in this state, with so much of the log left.
+fn ended(undone: u64, end: Kernel, left: usize) -> Total {
+    Total {
+        undone,
+        left: left as u64,
+        fresh: u64::from(replay::same_kernel(end, replay::fresh())),
     }
 }
 
 // Every note undone by a single public undo, until one is refused; there are no more notes than records.
-fn one_by_one(end: Kernel, log: &[u8], used: usize) -> Total {
-    let mut k = end;
-    let mut left = used;
+fn one_by_one(mut run: Run, log: &[u8]) -> Total {
     let mut undone: u64 = 0;
-    while undone < 4096 {
-        let l = undos::undo(k, log, left);
+    for _ in 0..4096 {
+        let l = undos::undo(run.kernel, log, run.used);
         if l.answer.number != 0 {
             break;
         }
-        k = l.kernel;
-        left = l.used;
-        undone += 1;
+        run.kernel = l.kernel;
+        run.used = l.used;
+        undone = undone.wrapping_add(1);
     }
-    Total {
-        undone: undone,
-        left: left as u64,
-        fresh: one_if_fresh(k),
-    }
+    ended(undone, run.kernel, run.used)
 }
 
 // The same in one call, which tests the state once.
-fn at_once(end: Kernel, log: &[u8], used: usize) -> Total {
-    let r = undos::undo_many(end, log, used, 4096);
-    Total {
-        undone: r.undone as u64,
-        left: r.used as u64,
-        fresh: one_if_fresh(r.kernel),
-    }
-}
-
-fn round(single: bool, end: Kernel, log: &[u8], used: usize) -> Total {
-    if single {
-        return one_by_one(end, log, used);
-    }
-    at_once(end, log, used)
+fn at_once(run: Run, log: &[u8]) -> Total {
+    let r = undos::undo_many(run.kernel, log, run.used, 4096);
+    ended(r.undone as u64, r.kernel, r.used)
 }
 
 // All of them, from the same end and the same log.
-fn all_rounds(single: bool, end: Kernel, log: &[u8; 1048576], used: usize) -> Total {
+fn all_rounds(single: bool, end: Run, log: &[u8; 1048576]) -> Total {
     let mut total = Total {
         undone: 0,
         left: 0,
         fresh: 0,
     };
-    let mut turn: u64 = 0;
-    while turn < 64 {
-        let r = round(single, end, log, used);
-        total = Total {
-            undone: std::num::wrapping_add_u64(total.undone, r.undone),
-            left: std::num::wrapping_add_u64(total.left, r.left),
-            fresh: std::num::wrapping_add_u64(total.fresh, r.fresh),
+    for _ in 0..64 {
+        let r = if single {
+            one_by_one(end, log)
+        } else {
+            at_once(end, log)
         };
-        turn += 1;
+        total = Total {
+            undone: total.undone.wrapping_add(r.undone),
+            left: total.left.wrapping_add(r.left),
+            fresh: total.fresh.wrapping_add(r.fresh),
+        };
     }
     total
-}
-
-// The one line of the program.
-fn finished(rt: &impl Print, records: u64, total: Total) -> io::Result<()> {
-    let Total {
-        undone,
-        left,
-        fresh,
-    } = total;
-    println!(rt; "records {records} rounds 64 undone {undone} left {left} fresh {fresh}")
 }
 
 fn main(rt: HostRuntime) -> io::Result<()> {
@@ -130,7 +102,11 @@ fn main(rt: HostRuntime) -> io::Result<()> {
     let mut records = [0u8; 65536];
     let n = read_full(&mut input, &mut records)?;
     let run = forward(&records[..n], &mut log);
-    let used = run.used;
-    let total = all_rounds(way[0] == b's', run.kernel, &log, used);
-    finished(&rt, (n / 16) as u64, total)
+    let Total {
+        undone,
+        left,
+        fresh,
+    } = all_rounds(way[0] == b's', run, &log);
+    let whole = n / 16;
+    println!(rt; "records {whole} rounds 64 undone {undone} left {left} fresh {fresh}")
 }

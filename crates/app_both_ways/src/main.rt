@@ -5,7 +5,6 @@
 ghost use Rattle.std.specs.Prelude.{IfOk};
 ghost use Rattle.spec_rules.specs.Rules.{Rules};
 
-use base_bytes::pens;
 use base_lines::input::read_full;
 use spec_answers::Answer;
 use spec_kernel::records::Kernel;
@@ -17,13 +16,6 @@ struct Run {
     kernel: Kernel,
     used: usize,
     serial: u64,
-}
-
-// A part of the input that has run: where the run stands then, and where its lines end.
-#[derive(Clone, Copy)]
-struct Part {
-    run: Run,
-    end: usize,
 }
 
 // ---- the lines
@@ -40,39 +32,24 @@ fn put_call(out: &mut [u8], at: usize, serial: u64, a: Answer, note: usize) -> u
     base_lines::put_line(out, at, &numbers)
 }
 
-// The line of an undo: number, runner, and the length of log that is left.
-fn put_undo(out: &mut [u8], a: Answer, used: usize) -> usize {
-    let p = pens::put_all(out, 0, b"back ");
-    let numbers = [a.number as u64, a.runner as u64, used as u64];
-    base_lines::put_line(out, p, &numbers)
-}
-
 // ---- forward
 
-// The whole records of s, and their lines in the lent room; a shorter tail is dropped. The state keeps its rules, and so does every state
-// after it, so that
-// no call tests them again. A call never shortens the used part of the log.
-fn forward(start: Run, s: &[u8], log: &mut [u8], out: &mut [u8]) -> Part
-    requires { Rules start.kernel }
-    ensures { Rules result.run.kernel }
+// The whole records of s, and their lines in the lent room; where the lines end. A shorter tail is dropped. The state keeps its rules, and
+// so does every state after it, so that no call tests them again. A call never shortens the used part of the log.
+fn forward(run: &mut Run, s: &[u8], log: &mut [u8], out: &mut [u8]) -> usize
+    requires { Rules run.old.kernel }
+    ensures { Rules run.new.kernel }
 {
-    let mut run = start;
-    let mut end: usize = 0;
-    let mut at: usize = 0;
-    while 16 <= s.len() - at {
-        let l = replay::recorded(run.kernel, replay::call_bytes(&s[at..]), log, run.used);
-        let n = std::num::wrapping_add_u64(run.serial, 1);
-        let note = std::num::wrapping_sub_usize(l.used, run.used);
-        end = put_call(out, end, n, l.answer, note);
-        let state = l.kernel;
-        run = Run {
-            kernel: state,
-            used: l.used,
-            serial: n,
-        };
-        at += 16;
+    let mut end = 0;
+    for bytes in s.as_chunks::<16>().0 {
+        let l = replay::recorded(run.kernel, *bytes, log, run.used);
+        let note = l.used.wrapping_sub(run.used);
+        run.kernel = l.kernel;
+        run.used = l.used;
+        run.serial = run.serial.wrapping_add(1);
+        end = put_call(out, end, run.serial, l.answer, note);
     }
-    Part { run: run, end: end }
+    end
 }
 
 // Standard input to its end, from fresh, in chunks. An error ends the run where it stands.
@@ -89,9 +66,8 @@ fn all_forward(rt: &(impl Input + Print), log: &mut [u8; 1048576]) -> io::Result
     };
     for _ in 0..u64::MAX {
         let n = read_full(&mut input, &mut chunk)?;
-        let part = forward(run, &chunk[..n], log, &mut out);
-        run = part.run;
-        rt.write_all(base_lines::up_to(&out, part.end))?;
+        let end = forward(&mut run, &chunk[..n], log, &mut out);
+        rt.write_all(base_lines::up_to(&out, end))?;
         if n < 4096 {
             break;
         }
@@ -101,21 +77,20 @@ fn all_forward(rt: &(impl Input + Print), log: &mut [u8; 1048576]) -> io::Result
 
 // ---- backwards
 
-// Every note undone, until an undo is refused; the state that is left. The state keeps its rules, and so does every state that an undo
-// gives, so that no undo tests those of the state that it is given.
+// Every note undone, until an undo is refused, with a line for each (number, runner, and the length of log that is left); the state that
+// is left. The state keeps its rules, and so does every state that an undo gives, so that no undo tests those of the state that it is given.
 fn backwards(rt: &impl Print, k: Kernel, log: &[u8; 1048576], used: usize) -> io::Result<Kernel>
     requires { Rules k }
 {
-    let mut out = [0u8; 64];
     let mut l = replay::undo_kept(k, log, used);
     for _ in 0..u64::MAX {
         if l.answer.number != 0 {
             break;
         }
-        let end = put_undo(&mut out, l.answer, l.used);
-        rt.write_all(base_lines::up_to(&out, end))?;
-        let state = l.kernel;
-        l = replay::undo_kept(state, log, l.used);
+        let Answer { number, runner, .. } = l.answer;
+        let left = l.used;
+        println!(rt; "back {number} {runner} {left}")?;
+        l = replay::undo_kept(l.kernel, log, left);
     }
     Ok(l.kernel)
 }
@@ -123,17 +98,16 @@ fn backwards(rt: &impl Print, k: Kernel, log: &[u8; 1048576], used: usize) -> io
 // The last two lines.
 fn finished(rt: &impl Print, k: Kernel) -> io::Result<()> {
     let uptime = k.uptime;
-    println!(rt; "uptime {uptime}")?;
-    if replay::same_kernel(k, replay::fresh()) {
-        println!(rt; "fresh")
+    let end = if replay::same_kernel(k, replay::fresh()) {
+        "fresh"
     } else {
-        println!(rt; "other")
-    }
+        "other"
+    };
+    println!(rt; "uptime {uptime}\n{end}")
 }
 
 fn main(rt: HostRuntime) -> io::Result<()> {
     let mut log = [0u8; 1048576];
     let run = all_forward(&rt, &mut log)?;
-    let used = run.used;
-    finished(&rt, backwards(&rt, run.kernel, &log, used)?)
+    finished(&rt, backwards(&rt, run.kernel, &log, run.used)?)
 }

@@ -15,41 +15,27 @@ struct Run {
     serial: u64,
 }
 
-// A part of the input that has run: where the run stands then, and where its lines end.
-#[derive(Clone, Copy)]
-struct Part {
-    run: Run,
-    end: usize,
-}
-
 // The line of an answer: serial, number, value, runner.
 fn put_answer(out: &mut [u8], at: usize, serial: u64, a: Answer) -> usize {
     let numbers = [serial, a.number as u64, a.value as u64, a.runner as u64];
     base_lines::put_line(out, at, &numbers)
 }
 
-// The whole records of s, each with an empty log, and their lines in the lent room; a shorter tail is dropped. The state keeps its rules,
-// and so does every state after it, so that no call tests them again.
-fn replayed(start: Run, s: &[u8], out: &mut [u8]) -> Part
-    requires { Rules start.kernel }
-    ensures { Rules result.run.kernel }
+// The whole records of s, each with an empty log, and their lines in the lent room; where the lines end. A shorter tail is dropped. The
+// state keeps its rules, and so does every state after it, so that no call tests them again.
+fn replayed(run: &mut Run, s: &[u8], out: &mut [u8]) -> usize
+    requires { Rules run.old.kernel }
+    ensures { Rules run.new.kernel }
 {
     let mut log = [0u8; 4096];
-    let mut run = start;
-    let mut end: usize = 0;
-    let mut at: usize = 0;
-    while 16 <= s.len() - at {
-        let l = replay::recorded(run.kernel, replay::call_bytes(&s[at..]), &mut log, 0);
-        let n = std::num::wrapping_add_u64(run.serial, 1);
-        end = put_answer(out, end, n, l.answer);
-        let state = l.kernel;
-        run = Run {
-            kernel: state,
-            serial: n,
-        };
-        at += 16;
+    let mut end = 0;
+    for bytes in s.as_chunks::<16>().0 {
+        let l = replay::recorded(run.kernel, *bytes, &mut log, 0);
+        run.kernel = l.kernel;
+        run.serial = run.serial.wrapping_add(1);
+        end = put_answer(out, end, run.serial, l.answer);
     }
-    Part { run: run, end: end }
+    end
 }
 
 fn main(rt: HostRuntime) -> io::Result<()> {
@@ -62,9 +48,8 @@ fn main(rt: HostRuntime) -> io::Result<()> {
     };
     for _ in 0..u64::MAX {
         let n = read_full(&mut input, &mut chunk)?;
-        let part = replayed(run, &chunk[..n], &mut out);
-        run = part.run;
-        rt.write_all(base_lines::up_to(&out, part.end))?;
+        let end = replayed(&mut run, &chunk[..n], &mut out);
+        rt.write_all(base_lines::up_to(&out, end))?;
         if n < 4096 {
             break;
         }

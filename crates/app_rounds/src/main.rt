@@ -15,11 +15,6 @@ struct Total {
     bytes: u64,
 }
 
-// One for a call that is accepted.
-fn one_if(accepted: bool) -> u64 {
-    if accepted { 1 } else { 0 }
-}
-
 // The whole records of s; a shorter tail is dropped. No call tests the state rules: the first state keeps them, and so does every state
 // after it.
 // The state to start from comes from outside, by two calls: were it made here, the compiler would take it apart, and copy every state
@@ -28,18 +23,16 @@ fn round(fresh: Kernel, s: &[u8], log: &mut [u8]) -> Total
     requires { Rules fresh }
 {
     let mut k = fresh;
-    let mut used: usize = 0;
+    let mut used = 0;
     let mut accepted: u64 = 0;
-    let mut at: usize = 0;
-    while 16 <= s.len() - at {
-        let l = replay::recorded(k, replay::call_bytes(&s[at..]), log, used);
+    for bytes in s.as_chunks::<16>().0 {
+        let l = replay::recorded(k, *bytes, log, used);
         k = l.kernel;
         used = l.used;
-        accepted = std::num::wrapping_add_u64(accepted, one_if(l.answer.number == 0));
-        at += 16;
+        accepted = accepted.wrapping_add(u64::from(l.answer.number == 0));
     }
     Total {
-        accepted: accepted,
+        accepted,
         bytes: used as u64,
     }
 }
@@ -48,27 +41,21 @@ fn round(fresh: Kernel, s: &[u8], log: &mut [u8]) -> Total
 fn all_rounds(s: &[u8], log: &mut [u8; 1048576]) -> Total {
     let fresh = replay::fresh();
     let mut total = round(fresh, s, log);
-    let mut turn: u64 = 1;
-    while turn < 256 {
+    for _ in 1..256 {
         let r = round(fresh, s, log);
         total = Total {
-            accepted: std::num::wrapping_add_u64(total.accepted, r.accepted),
-            bytes: std::num::wrapping_add_u64(total.bytes, r.bytes),
+            accepted: total.accepted.wrapping_add(r.accepted),
+            bytes: total.bytes.wrapping_add(r.bytes),
         };
-        turn += 1;
     }
     total
-}
-
-// The one line of the program.
-fn finished(rt: &impl Print, records: u64, accepted: u64, bytes: u64) -> io::Result<()> {
-    println!(rt; "records {records} rounds 256 accepted {accepted} bytes {bytes}")
 }
 
 fn main(rt: HostRuntime) -> io::Result<()> {
     let mut log = [0u8; 1048576];
     let mut records = [0u8; 65536];
     let n = read_full(&mut rt.reader(), &mut records)?;
-    let total = all_rounds(&records[..n], &mut log);
-    finished(&rt, (n / 16) as u64, total.accepted, total.bytes)
+    let Total { accepted, bytes } = all_rounds(&records[..n], &mut log);
+    let whole = n / 16;
+    println!(rt; "records {whole} rounds 256 accepted {accepted} bytes {bytes}")
 }

@@ -13,14 +13,8 @@ const ROOM: usize = 2048;
 
 // A step: the answer and the image then.
 fn put_step(rt: &impl Print, a: Answer, room: &[u8], length: usize) -> io::Result<()> {
-    let head = [
-        a.number,
-        a.value,
-        a.runner,
-        (length % 256) as u8,
-        (length / 256 % 256) as u8,
-    ];
-    rt.write_all(&head)?;
+    let [low, high, ..] = length.to_le_bytes();
+    rt.write_all(&[a.number, a.value, a.runner, low, high])?;
     rt.write_all(base_lines::up_to(room, length))
 }
 

@@ -12,17 +12,18 @@ use spec_answers::Answer;
 fn packed(a: Answer) -> u32
     ensures { result ≡ packed a }
 {
-    a.number as u32 + 256 * (a.value as u32) + 65536 * (a.runner as u32)
+    u32::from_le_bytes([a.number, a.value, a.runner, 0])
 }
 
 // A record that isn't sixteen bytes is of no kind, as sixteen zeros are.
 fn record_or_0(bytes: &[u8]) -> [u8; 16]
     ensures { result ≡ record_or0 bytes.now }
 {
-    if bytes.len() != 16 {
-        return [0u8; 16];
+    if bytes.len() == 16 {
+        replay::call_bytes(bytes)
+    } else {
+        [0u8; 16]
     }
-    replay::call_bytes(bytes)
 }
 
 // The length of an image that was written, or else the one that was there.

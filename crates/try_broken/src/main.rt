@@ -17,163 +17,112 @@ ghost use Rattle.std.specs.Prelude.{◌≤◌, length};
 use base_lines::input::read_full;
 use base_queue::{CAPACITY, Queue};
 use replay::images;
+use spec_images::Written;
 use spec_kernel::records::{Condition, Event, Kernel, Message, Semaphore, Thread, Wake};
-use spec_kernel::sizes;
 use std::io;
 
-// What a line changes: a kind of record with its id, or a table.
+// What a line changes: a record with its id, or a table.
 #[derive(Clone, Copy)]
-struct Choice {
-    kind: u8,
-    id: usize,
+enum Choice {
+    Nothing,
+    Thread(usize),
+    Semaphore(usize),
+    Event(usize),
+    Message(usize),
+    Places,
+    Time,
+    Posted,
 }
 
 // ---- numbers
 
 fn byte(n: u32) -> u8 {
-    if n < 256 { n as u8 } else { 255 }
+    n.min(255) as u8
 }
 
 fn half(n: u32) -> u16 {
-    if n < 65536 { n as u16 } else { 65535 }
+    n.min(65535) as u16
 }
 
 // The number with one more digit, where it fits.
 fn with_digit(n: u32, digit: u8) -> u32 {
-    let d = digit as u32;
-    if 429496729 < n {
-        return n;
-    }
-    let tens = n * 10;
-    if 4294967295 - d < tens {
-        return n;
-    }
-    tens + d
+    n.checked_mul(10)
+        .and_then(|tens| tens.checked_add(u32::from(digit)))
+        .unwrap_or(n)
 }
 
 // ---- a change of one record or table
 
-fn changed_condition(r: Thread, c: u8, n: u32) -> Thread {
+fn change_condition(r: &mut Thread, c: u8, n: u32) {
     match c {
-        b'R' => Thread {
-            condition: Condition::Ready,
-            ..r
-        },
-        b'A' => Thread {
-            condition: Condition::Asleep,
-            ..r
-        },
-        b'S' => Thread {
-            condition: Condition::ForSemaphore(byte(n)),
-            ..r
-        },
-        b'E' => Thread {
-            condition: Condition::ForEvent(byte(n)),
-            ..r
-        },
-        b'M' => Thread {
-            condition: Condition::ForMessage(half(n)),
-            ..r
-        },
-        b'G' => Thread {
-            condition: Condition::ForFlag(byte(n)),
-            ..r
-        },
-        _ => r,
+        b'R' => r.condition = Condition::Ready,
+        b'A' => r.condition = Condition::Asleep,
+        b'S' => r.condition = Condition::ForSemaphore(byte(n)),
+        b'E' => r.condition = Condition::ForEvent(byte(n)),
+        b'M' => r.condition = Condition::ForMessage(half(n)),
+        b'G' => r.condition = Condition::ForFlag(byte(n)),
+        _ => {}
     }
 }
 
-fn changed_thread(r: Thread, c: u8, n: u32) -> Thread {
+fn change_thread(r: &mut Thread, c: u8, n: u32) {
     match c {
-        b'l' => Thread { live: true, ..r },
-        b'p' => Thread {
-            priority: byte(n),
-            ..r
-        },
-        b'f' => Thread {
-            first: byte(n),
-            ..r
-        },
-        b'k' => Thread { ticks: n, ..r },
-        b'w' => Thread {
-            wake: Wake::Met,
-            ..r
-        },
-        b'y' => Thread {
-            reply: byte(n),
-            ..r
-        },
-        _ => changed_condition(r, c, n),
+        b'l' => r.live = true,
+        b'p' => r.priority = byte(n),
+        b'f' => r.first = byte(n),
+        b'k' => r.ticks = n,
+        b'w' => r.wake = Wake::Met,
+        b'y' => r.reply = byte(n),
+        _ => change_condition(r, c, n),
     }
 }
 
-fn changed_semaphore(r: Semaphore, c: u8, n: u32) -> Semaphore {
+fn change_semaphore(r: &mut Semaphore, c: u8, n: u32) {
     match c {
-        b'l' => Semaphore { live: true, ..r },
-        b'c' => Semaphore {
-            count: half(n),
-            ..r
-        },
-        b'x' => Semaphore {
-            maximum: half(n),
-            ..r
-        },
-        b'k' => Semaphore { ticks: n, ..r },
-        b'd' => Semaphore { period: n, ..r },
-        _ => r,
+        b'l' => r.live = true,
+        b'c' => r.count = half(n),
+        b'x' => r.maximum = half(n),
+        b'k' => r.ticks = n,
+        b'd' => r.period = n,
+        _ => {}
     }
 }
 
-fn changed_event(r: Event, c: u8, n: u32) -> Event {
+fn change_event(r: &mut Event, c: u8, n: u32) {
     match c {
-        b'x' => Event { mask: n, ..r },
-        b'y' => Event { values: n, ..r },
-        _ => r,
+        b'x' => r.mask = n,
+        b'y' => r.values = n,
+        _ => {}
     }
 }
 
-fn changed_message(r: Message, c: u8, n: u32) -> Message {
+fn change_message(r: &mut Message, c: u8, n: u32) {
     match c {
-        b'l' => Message { live: true, ..r },
-        b'o' => Message {
-            owner: byte(n),
-            ..r
-        },
-        b'n' => Message {
-            sender: byte(n),
-            ..r
-        },
-        b'z' => Message { size: n, ..r },
-        b'h' => Message {
-            channel: byte(n),
-            ..r
-        },
-        _ => r,
+        b'l' => r.live = true,
+        b'o' => r.owner = byte(n),
+        b'n' => r.sender = byte(n),
+        b'z' => r.size = n,
+        b'h' => r.channel = byte(n),
+        _ => {}
     }
 }
 
 // The ids from the last one on, up to n.
-fn through(q: Queue, n: u32) -> Queue {
-    let mut next = q;
-    let mut i = base_queue::size(q);
-    while i < CAPACITY {
-        if n < i as u32 {
-            return next;
+fn through(mut q: Queue, n: u32) -> Queue {
+    for id in base_queue::size(q)..CAPACITY {
+        if n < id as u32 {
+            break;
         }
-        next = base_queue::with_at(next, i, i as u8);
-        i += 1;
+        q = base_queue::with_at(q, id, id as u8);
     }
-    next
+    q
 }
 
-const LAST: usize = CAPACITY - 1;
-
 // Another length, and garbage in the last place.
-fn garbled(q: Queue, length: u8) -> Queue {
-    let mut next = q;
-    next.at[LAST] = 1;
-    next.n = length;
-    next
+fn garbled(mut q: Queue, length: u8) -> Queue {
+    q.at[CAPACITY - 1] = 1;
+    q.n = length;
+    q
 }
 
 fn changed_table(q: Queue, c: u8, n: u32) -> Queue {
@@ -188,205 +137,138 @@ fn changed_table(q: Queue, c: u8, n: u32) -> Queue {
 
 // ---- a change of a state
 
-fn with_thread(k: Kernel, id: usize, c: u8, n: u32) -> Kernel {
-    let mut next = k;
-    if sizes::THREADS <= id {
-        return next;
-    }
-    let r = changed_thread(k.threads[id], c, n);
-    if c == b'*' {
-        let all = [r; sizes::THREADS];
-        next.threads = all;
-        return next;
-    }
-    next.threads[id] = r;
-    next
-}
-
-fn with_semaphore(k: Kernel, id: usize, c: u8, n: u32) -> Kernel {
-    let mut next = k;
-    if sizes::SEMAPHORES <= id {
-        return next;
-    }
-    next.semaphores[id] = changed_semaphore(k.semaphores[id], c, n);
-    next
-}
-
-fn with_event(k: Kernel, id: usize, c: u8, n: u32) -> Kernel {
-    let mut next = k;
-    if sizes::EVENTS <= id {
-        return next;
-    }
-    next.events[id] = changed_event(k.events[id], c, n);
-    next
-}
-
-fn with_message(k: Kernel, id: usize, c: u8, n: u32) -> Kernel {
-    let mut next = k;
-    if sizes::MESSAGES <= id {
-        return next;
-    }
-    let r = changed_message(k.messages[id], c, n);
-    if c == b'*' {
-        let all = [r; sizes::MESSAGES];
-        next.messages = all;
-        return next;
-    }
-    next.messages[id] = r;
-    next
-}
-
-fn with_table(k: Kernel, table: u8, c: u8, n: u32) -> Kernel {
-    let mut next = k;
-    match table {
-        b'P' => {
-            next.places = changed_table(k.places, c, n);
-            next
+// All records like the one with this id, where there is one.
+fn spread<T: Copy>(table: &mut [T], id: usize) {
+    if id < table.len() {
+        let r = table[id];
+        for x in table.iter_mut() {
+            *x = r;
         }
-        b'T' => {
-            next.time = changed_table(k.time, c, n);
-            next
-        }
-        b'C' => {
-            next.posted = changed_table(k.posted, c, n);
-            next
-        }
-        _ => next,
     }
 }
 
-// A number of the whole state.
-fn with_number(k: Kernel, c: u8, n: u32) -> Kernel {
-    let mut next = k;
-    match c {
-        b'b' => {
-            next.bits = n;
-            next
-        }
-        b'u' => {
-            next.unscheduled = byte(n);
-            next
-        }
-        b'v' => {
-            next.critical = byte(n);
-            next
-        }
-        b'r' => {
-            next.runner = byte(n);
-            next
-        }
-        b'g' => {
-            next.flags = half(n);
-            next
-        }
-        _ => next,
-    }
-}
-
+// The choice that a letter makes; any other letter leaves the old one.
 fn chosen(old: Choice, c: u8, n: u32) -> Choice {
+    let id = n as usize;
     match c {
-        b't' | b's' | b'e' | b'm' | b'P' | b'T' | b'C' => Choice {
-            kind: c,
-            id: n as usize,
-        },
+        b't' => Choice::Thread(id),
+        b's' => Choice::Semaphore(id),
+        b'e' => Choice::Event(id),
+        b'm' => Choice::Message(id),
+        b'P' => Choice::Places,
+        b'T' => Choice::Time,
+        b'C' => Choice::Posted,
         _ => old,
     }
 }
 
-fn changed(k: Kernel, at: Choice, c: u8, n: u32) -> Kernel {
+// What is chosen changed; nothing where there is no record with the id.
+fn change_at(k: &mut Kernel, at: Choice, c: u8, n: u32) {
+    match at {
+        Choice::Nothing => {}
+        Choice::Thread(id) if c == b'*' => spread(&mut k.threads, id),
+        Choice::Message(id) if c == b'*' => spread(&mut k.messages, id),
+        Choice::Thread(id) => {
+            if let Some(r) = k.threads.get_mut(id) {
+                change_thread(r, c, n);
+            }
+        }
+        Choice::Semaphore(id) => {
+            if let Some(r) = k.semaphores.get_mut(id) {
+                change_semaphore(r, c, n);
+            }
+        }
+        Choice::Event(id) => {
+            if let Some(r) = k.events.get_mut(id) {
+                change_event(r, c, n);
+            }
+        }
+        Choice::Message(id) => {
+            if let Some(r) = k.messages.get_mut(id) {
+                change_message(r, c, n);
+            }
+        }
+        Choice::Places => k.places = changed_table(k.places, c, n),
+        Choice::Time => k.time = changed_table(k.time, c, n),
+        Choice::Posted => k.posted = changed_table(k.posted, c, n),
+    }
+}
+
+fn change(k: &mut Kernel, at: Choice, c: u8, n: u32) {
     match c {
-        b'F' => code_kernel::records::fresh(),
-        b'b' | b'u' | b'v' | b'r' | b'g' => with_number(k, c, n),
-        _ => {
-            let kind = at.kind;
-            match kind {
-                b't' => with_thread(k, at.id, c, n),
-                b's' => with_semaphore(k, at.id, c, n),
-                b'e' => with_event(k, at.id, c, n),
-                b'm' => with_message(k, at.id, c, n),
-                _ => with_table(k, kind, c, n),
+        b'F' => *k = code_kernel::records::fresh(),
+        b'b' => k.bits = n,
+        b'u' => k.unscheduled = byte(n),
+        b'v' => k.critical = byte(n),
+        b'r' => k.runner = byte(n),
+        b'g' => k.flags = half(n),
+        _ => change_at(k, at, c, n),
+    }
+}
+
+// The state after the changes of a line: a letter is carried out when its number has ended.
+fn made(mut k: Kernel, s: &[u8]) -> Kernel {
+    let mut at = Choice::Nothing;
+    let mut c = b' ';
+    let mut n = 0;
+    for b in s {
+        match *b {
+            digit @ b'0'..=b'9' => n = with_digit(n, digit - b'0'),
+            letter => {
+                at = chosen(at, c, n);
+                change(&mut k, at, c, n);
+                c = letter;
+                n = 0;
             }
         }
     }
-}
-// The state after the changes of a line.
-fn made(k: Kernel, s: &[u8]) -> Kernel {
-    let mut next = k;
-    let mut at = Choice { kind: 0, id: 0 };
-    let mut c = b' ';
-    let mut n: u32 = 0;
-    let mut i: usize = 0;
-    while i < s.len() {
-        let b = s[i];
-        if 48 <= b && b <= 57 {
-            n = with_digit(n, b - 48);
-        } else {
-            at = chosen(at, c, n);
-            next = changed(next, at, c, n);
-            c = b;
-            n = 0;
-        }
-        i += 1;
-    }
-    changed(next, chosen(at, c, n), c, n)
+    at = chosen(at, c, n);
+    change(&mut k, at, c, n);
+    k
 }
 
 // ---- the lines
 
-// Of the state's image: the number that writing it gets, its length, and whether reading it gives the state.
-fn show_image(rt: &impl Print, k: Kernel) -> io::Result<()> {
-    let mut room = [0u8; 2048];
-    let w = images::write(k, &mut room);
-    let (number, length) = (w.number, w.length);
-    print!(rt; "{number} {length}")?;
-    let r = images::read(base_lines::up_to(&room, w.length));
-    let kernel = r.kernel;
-    if replay::same_kernel(kernel, k) {
-        println!(rt; " same")
-    } else {
-        println!(rt; " other")
-    }
-}
-
-// A line of the output: the state's name, what the test says, and its image.
+// A line of the output: the state's name, what the test says, and of its image the number that writing it gets, its length, and whether
+// reading it gives the state.
 fn show(rt: &impl Print, name: &[u8], k: Kernel) -> io::Result<()> {
-    rt.write_all(name)?;
-    if code_rules::keeps_rules(k) {
-        print!(rt; " kept ")?;
+    let rules = if code_rules::keeps_rules(k) {
+        "kept"
     } else {
-        print!(rt; " broken ")?;
-    }
-    show_image(rt, k)
+        "broken"
+    };
+    let mut room = [0u8; 2048];
+    let Written { number, length } = images::write(k, &mut room);
+    let read = images::read(base_lines::up_to(&room, length)).kernel;
+    let image = if replay::same_kernel(read, k) {
+        "same"
+    } else {
+        "other"
+    };
+    rt.write_all(name)?;
+    println!(rt; " {rules} {number} {length} {image}")
 }
 
-// The first place of b from `at` on, or the end.
-fn place_of(s: &[u8], at: usize, b: u8) -> usize
-    requires { at ≤ length s.now }
-    ensures { (at ≤ result) × (result ≤ length s.now) }
+// What stands before the first b, and what stands from there on.
+fn cut(s: &[u8], b: u8) -> (&[u8], &[u8])
+    ensures { length result.1.now ≤ length s.now }
 {
-    let mut i = at;
-    while i < s.len() {
-        if s[i] == b {
-            return i;
-        }
-        i += 1;
-    }
-    i
+    let n = s.iter().position(|x| *x == b).unwrap_or(s.len());
+    s.split_at(n)
 }
 
 // The first line makes the busy state; of each later one, the name stands before the bar and the state's changes behind it.
 fn show_all(rt: &impl Print, s: &[u8]) -> io::Result<()> {
-    let mut at = place_of(s, 0, b'\n');
-    let busy = made(code_kernel::records::fresh(), &s[..at]);
-    while at < s.len() {
-        let from = at + 1;
-        if from == s.len() {
-            return Ok(());
+    let (first, mut rest) = cut(s, b'\n');
+    let busy = made(code_kernel::records::fresh(), first);
+    while let [_, line @ ..] = rest {
+        if line.is_empty() {
+            break;
         }
-        let bar = place_of(s, from, b'|');
-        let end = place_of(s, bar, b'\n');
-        show(rt, &s[from..bar], made(busy, &s[bar..end]))?;
-        at = end;
+        let (name, tail) = cut(line, b'|');
+        let (changes, next) = cut(tail, b'\n');
+        show(rt, name, made(busy, changes))?;
+        rest = next;
     }
     Ok(())
 }

@@ -22,13 +22,11 @@ pub fn apart(k: Kernel, bytes: [u8; 16]) -> Logged
 }
 
 // The first byte, 255 where there is none.
+#[tactic(auto, unfolding(base_queue::specs::Lists::first_of))]
 fn first_of(part: &[u8]) -> u8
     ensures { result ≡ first_of part.now }
 {
-    if part.len() == 0 {
-        return 255;
-    }
-    part[0]
+    part.first().copied().unwrap_or(255)
 }
 
 // The value of the call that a note tells of: the id of what it created, or of the message that it took, is the first of its section.
@@ -55,18 +53,16 @@ pub fn noted_answer(note: &[u8], runner: u8) -> Answer
     Answer {
         number: 0,
         value: value_in(note),
-        runner: runner,
+        runner,
     }
 }
 
 // Whether the note's record on a state yields this end state and this very note, with the answer that the note tells.
+#[tactic(auto, unfolding(crate::specs::Entries::yields_note))]
 pub fn yields(old: Kernel, note: &[u8], end: Kernel) -> bool
     ensures { result ≡ yields_note old note.now end }
 {
     let mut own = [0u8; 4096];
     let l = logs::called(old, last::call_bytes(note), &mut own, 0);
-    if !came_back(l, noted_answer(note, end.runner), end, note.len()) {
-        return false;
-    }
-    same_bytes(&own, 0, note)
+    came_back(l, noted_answer(note, end.runner), end, note.len()) && same_bytes(&own, 0, note)
 }

@@ -6,19 +6,16 @@ use base_bytes::bytes::same_bytes;
 use base_bytes::pens;
 
 // What stands between two places of one is copied to the other; whether both are the same then.
+#[tactic(auto, unfolding(crate::specs::Copies::copied_to, crate::specs::Copies::are_same))]
 pub fn copied(target: &mut [u8], source: &[u8], from: usize, to: usize) -> bool
     ensures { (target.new ≡ copied_to target.old source.now from to)
         × (result ≡ are_same target.old source.now from to) }
 {
-    if to < from {
+    if to < from || from != to && source.len() < to {
         return false;
     }
-    if to == from {
-        return same_bytes(target, 0, source);
+    if from < to {
+        pens::put_all(target, from, &source[from..to]);
     }
-    if source.len() < to {
-        return false;
-    }
-    pens::put_all(target, from, &source[from..to]);
     same_bytes(target, 0, source)
 }

@@ -6,4 +6,5 @@ pub mod copies;
 pub mod entries;
 pub mod report;
 pub mod returned;
+pub mod runs;
 pub mod tallies;

@@ -11,33 +11,23 @@ pub fn without_value(number: u8, runner: u8) -> Answer
     ensures { result ≡ answer number 255 runner }
 {
     Answer {
-        number: number,
+        number,
         value: 255,
-        runner: runner,
+        runner,
     }
 }
 
+#[tactic(auto, unfolding(crate::specs::Returned::same_answer))]
 pub fn same_answer(a: Answer, b: Answer) -> bool
     ensures { result ≡ same_answer a b }
 {
-    if a.number != b.number {
-        return false;
-    }
-    if a.value != b.value {
-        return false;
-    }
-    a.runner == b.runner
+    a.number == b.number && a.value == b.value && a.runner == b.runner
 }
 
 // Whether this came back: the answer, the state and the used length.
+#[tactic(auto, unfolding(crate::specs::Returned::came_back))]
 pub fn came_back(l: Logged, a: Answer, k: Kernel, used: usize) -> bool
     ensures { result ≡ came_back l a k used }
 {
-    if !same_answer(l.answer, a) {
-        return false;
-    }
-    if l.used != used {
-        return false;
-    }
-    code_notes_same::same_kernel(l.kernel, k)
+    same_answer(l.answer, a) && l.used == used && code_notes_same::same_kernel(l.kernel, k)
 }

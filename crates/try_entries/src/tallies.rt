@@ -21,10 +21,7 @@ pub struct Outcome {
 pub fn ended(number: u8, right: bool) -> Outcome
     ensures { result ≡ outcome number right }
 {
-    Outcome {
-        number: number,
-        right: right,
-    }
+    Outcome { number, right }
 }
 
 // No trial yet.
@@ -40,41 +37,43 @@ pub fn nothing() -> Tally
 }
 
 // One more wrong, unless this holds.
+#[tactic(auto, unfolding(crate::specs::Tallies::checked_by))]
 pub fn checked(t: Tally, holds: bool) -> Tally
     ensures { result ≡ checked_by t holds }
 {
     if holds {
-        return t;
-    }
-    Tally {
-        wrong: std::num::wrapping_add_u64(t.wrong, 1),
-        ..t
+        t
+    } else {
+        Tally {
+            wrong: t.wrong.wrapping_add(1),
+            ..t
+        }
     }
 }
 
 // One more with this number.
+#[tactic(auto, unfolding(crate::specs::Tallies::numbered_by))]
 fn numbered(t: Tally, number: u8) -> Tally
     ensures { result ≡ numbered_by t number }
 {
-    if number == 0 {
-        return Tally {
-            accepted: std::num::wrapping_add_u64(t.accepted, 1),
+    match number {
+        0 => Tally {
+            accepted: t.accepted.wrapping_add(1),
             ..t
-        };
-    }
-    if number == 14 {
-        return Tally {
-            broken: std::num::wrapping_add_u64(t.broken, 1),
+        },
+        14 => Tally {
+            broken: t.broken.wrapping_add(1),
             ..t
-        };
-    }
-    Tally {
-        refused: std::num::wrapping_add_u64(t.refused, 1),
-        ..t
+        },
+        _ => Tally {
+            refused: t.refused.wrapping_add(1),
+            ..t
+        },
     }
 }
 
 // One trial more.
+#[tactic(auto, unfolding(crate::specs::Tallies::counted_by))]
 pub fn counted(t: Tally, o: Outcome) -> Tally
     ensures { result ≡ counted_by t o }
 {

@@ -24,16 +24,16 @@
 // undone from the later state. The last line has all wrong ones; it must be 0.
 #![tactic(auto)]
 
-use base_bytes::bytes::{byte_at, same_bytes};
+use base_bytes::bytes::byte_at;
 use base_bytes::pens;
 use base_lines::input::read_full;
-use code_notes_frame::last;
 use replay::logs;
 use spec_answers::Logged;
 use spec_kernel::records::Kernel;
 use std::io;
 use try_entries::copies::copied;
 use try_entries::returned::{came_back, without_value};
+use try_entries::runs::{Logs, over_records};
 use try_entries::tallies::{Outcome, Tally, checked, counted, ended, nothing};
 use try_entries::{again, entries, report};
 
@@ -67,70 +67,53 @@ struct Note {
 
 // The log ends at each place where the note would stand. What a refused call wrote, the record's own note would hide, so it is looked
 // for at the end.
-fn fulls(t: Tally, k: Kernel, bytes: [u8; 16], log: &mut [u8], copy: &[u8], at: Note) -> Tally {
+fn fulls(mut t: Tally, k: Kernel, bytes: [u8; 16], both: &mut Logs, at: Note) -> Tally {
     let a = without_value(13, k.runner);
-    let mut next = t;
-    let mut m = at.from;
-    while m < at.to {
-        if log.len() < m {
-            return checked(next, false);
-        }
-        next = counted(next, entries::refused(k, bytes, &mut log[0..m], at.from, a));
-        m += 1;
+    for m in at.from..at.to {
+        let Some(part) = both.log.get_mut(..m) else {
+            return checked(t, false);
+        };
+        t = counted(t, entries::refused(k, bytes, part, at.from, a));
     }
-    checked(next, same_bytes(log, 0, copy))
+    checked(t, both.log == both.copy)
 }
 
 // The undo with the log that ends at m.
 fn on_part(k: Kernel, log: &[u8], m: usize, used: usize) -> Outcome {
-    if log.len() < m {
-        return ended(255, false);
+    match log.get(..m) {
+        Some(part) => entries::undo(k, part, used),
+        None => ended(255, false),
     }
-    entries::undo(k, &log[0..m], used)
-}
-
-// The greater of the two.
-fn most(a: usize, b: usize) -> usize {
-    if a < b { b } else { a }
 }
 
 // The log ends at each place of the note, and is used to its end, or to `used` where that is more.
 fn parts(t: Tally, k: Kernel, log: &[u8], at: Note, used: usize) -> Tally {
-    let mut next = t;
-    let mut m = at.from;
-    while m < at.to {
-        next = counted(next, on_part(k, log, m, most(m, used)));
-        m += 1;
-    }
-    next
+    (at.from..at.to).fold(t, |t, m| counted(t, on_part(k, log, m, m.max(used))))
 }
 
-// One bit of the log flipped, and flipped back.
-fn on_flip(k: Kernel, log: &mut [u8; 16384], bit: usize, used: usize) -> Outcome {
-    let at = bit / 8;
+// These bits of a byte of the log flipped, and flipped back.
+fn on_flip(k: Kernel, log: &mut [u8], at: usize, bits: u8, used: usize) -> Outcome {
     let old = byte_at(log, at);
-    pens::put_byte(log, at, old ^ (1 << bit % 8));
+    pens::put_byte(log, at, old ^ bits);
     let o = entries::undo(k, log, used);
     pens::put_byte(log, at, old);
     o
 }
 
 // Each bit of the note.
-fn flips(t: Tally, k: Kernel, log: &mut [u8; 16384], at: Note) -> Tally {
-    let mut next = t;
-    let mut bit = at.from << 3;
-    let end = at.to << 3;
-    while bit < end {
-        next = counted(next, on_flip(k, log, bit, at.to));
-        bit += 1;
+fn flips(mut t: Tally, k: Kernel, log: &mut [u8], at: Note) -> Tally {
+    for place in at.from..at.to {
+        for bit in 0..8 {
+            t = counted(t, on_flip(k, log, place, 1 << bit, at.to));
+        }
     }
-    next
+    t
 }
 
 // Used lengths beyond the log.
 fn beyonds(t: Tally, k: Kernel, log: &[u8], used: usize) -> Tally {
     let a = counted(t, entries::undo(k, log, 16385));
-    let b = counted(a, entries::undo(k, log, 18446744073709551615));
+    let b = counted(a, entries::undo(k, log, usize::MAX));
     counted(b, entries::undo(k, b"", used))
 }
 
@@ -139,83 +122,44 @@ fn beyonds(t: Tally, k: Kernel, log: &[u8], used: usize) -> Tally {
 // The record's own call came back with l: an accepted one is undone, a refused one left all as it was.
 fn on_record(k: Kernel, l: Logged, log: &[u8], from: usize) -> Outcome {
     let number = l.answer.number;
-    if number == 0 {
-        return ended(0, entries::accepted(l, log, k, from));
-    }
-    ended(
-        number,
-        came_back(l, without_value(number, k.runner), k, from),
-    )
-}
-
-// The damage after a record that leaves the log's bytes.
-fn after(h: Harm, k: Kernel, log: &[u8; 16384], at: Note) -> Harm {
-    let mut next = h;
-    next.cut = parts(next.cut, k, log, at, 0);
-    next.short = parts(next.short, k, log, at, at.to);
-    next.beyond = beyonds(next.beyond, k, log, at.to);
-    next
-}
-
-// The record's own call on k came back with l, and `only` tells whether it wrote no more than its note; then the damage after it.
-fn judged(h: Harm, k: Kernel, l: Logged, only: bool, log: &[u8; 16384], from: usize) -> Run {
-    let o = on_record(k, l, log, from);
-    let state = l.kernel;
-    let at = Note {
-        from: from,
-        to: l.used,
+    let right = if number == 0 {
+        entries::accepted(l, log, k, from)
+    } else {
+        came_back(l, without_value(number, k.runner), k, from)
     };
-    let mut next = h;
-    next.records = counted(checked(next.records, only), o);
-    Run {
-        kernel: state,
-        used: at.to,
-        harm: after(next, state, log, at),
-    }
+    ended(number, right)
 }
 
-// The damage after it that changes the log's bytes.
-fn flipped(run: Run, log: &mut [u8; 16384], from: usize) -> Run {
-    let k = run.kernel;
-    let mut h = run.harm;
-    let at = Note {
-        from: from,
-        to: run.used,
-    };
+// The damage after a record that left this state and this note.
+fn after(mut h: Harm, k: Kernel, log: &mut [u8], at: Note) -> Harm {
+    h.cut = parts(h.cut, k, log, at, 0);
+    h.short = parts(h.short, k, log, at, at.to);
+    h.beyond = beyonds(h.beyond, k, log, at.to);
     h.flipped = flips(h.flipped, k, log, at);
-    Run {
-        kernel: k,
-        used: at.to,
-        harm: h,
-    }
+    h
 }
 
-// The record itself, and what comes after it.
-fn recorded(
-    h: Harm,
-    k: Kernel,
-    bytes: [u8; 16],
-    log: &mut [u8; 16384],
-    copy: &mut [u8; 16384],
-    from: usize,
-) -> Run {
-    let l = logs::called(k, bytes, log, from);
-    let only = copied(copy, log, from, l.used);
-    flipped(judged(h, k, l, only, log, from), log, from)
-}
-
-// One record more, with the damage before and after it. The room that its note needs is the length of its note in a log of its own, none
-// where it is refused.
-fn next(run: Run, bytes: [u8; 16], log: &mut [u8; 16384], copy: &mut [u8; 16384]) -> Run {
+// One record more, with the damage before and after it; the copy takes over its note. The room that its note needs is the length of its note
+// in a log of its own, none where it is refused.
+fn next(run: Run, bytes: [u8; 16], both: &mut Logs) -> Run {
     let k = run.kernel;
     let from = run.used;
     let room = Note {
-        from: from,
-        to: std::num::wrapping_add_usize(from, again::apart(k, bytes).used),
+        from,
+        to: from.wrapping_add(again::apart(k, bytes).used),
     };
     let mut h = run.harm;
-    h.full = fulls(h.full, k, bytes, log, copy, room);
-    recorded(h, k, bytes, log, copy, from)
+    h.full = fulls(h.full, k, bytes, both, room);
+    let l = logs::called(k, bytes, &mut both.log, from);
+    let only = copied(&mut both.copy, &both.log, from, l.used);
+    let o = on_record(k, l, &both.log, from);
+    h.records = counted(checked(h.records, only), o);
+    let note = Note { from, to: l.used };
+    Run {
+        kernel: l.kernel,
+        used: l.used,
+        harm: after(h, l.kernel, &mut both.log, note),
+    }
 }
 
 // Fresh, and no trial yet.
@@ -234,18 +178,6 @@ fn started() -> Run {
     }
 }
 
-// The whole records of s; a shorter tail is dropped.
-fn all(s: &[u8], log: &mut [u8; 16384], copy: &mut [u8; 16384]) -> Run {
-    let mut run = started();
-    let mut at: usize = 0;
-    while 16 <= s.len() - at {
-        let bytes = last::call_bytes(&s[at..]);
-        at += 16;
-        run = next(run, bytes, log, copy);
-    }
-    run
-}
-
 // ---- the lines
 
 // All lines.
@@ -261,21 +193,9 @@ fn shown(rt: &impl Print, h: Harm, used: usize) -> io::Result<()> {
     Ok(())
 }
 
-// The run on arrays, which are lent whole.
-fn run_on(
-    rt: &impl Print,
-    s: &[u8],
-    log: &mut [u8; 16384],
-    copy: &mut [u8; 16384],
-) -> io::Result<()> {
-    let run = all(s, log, copy);
-    shown(rt, run.harm, run.used)
-}
-
 fn main(rt: HostRuntime) -> io::Result<()> {
-    let mut log = [165u8; 16384];
-    let mut copy = [165u8; 16384];
     let mut records = [0u8; 65536];
     let n = read_full(&mut rt.reader(), &mut records)?;
-    run_on(&rt, &records[..n], &mut log, &mut copy)
+    let run = over_records(&records[..n], started(), next);
+    shown(&rt, run.harm, run.used)
 }

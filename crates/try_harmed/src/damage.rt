@@ -4,17 +4,105 @@ use base_queue::{CAPACITY, Queue};
 use spec_kernel::records::{Condition, Event, Kernel, Message, Semaphore, Thread, Wake};
 use spec_kernel::sizes;
 
-// Threads have 7 fields, semaphores 5, events 3, messages 7, the tables 6 (length and one place of each of three), and the state 6 more
-// (bits, uptime, two levels, runner, flags).
-pub(crate) const FIELDS: u8 = 34;
-
-// One damage: the field's number, the id or place, and the value.
 #[derive(Clone, Copy)]
-struct Damage {
-    field: u8,
-    id: usize,
-    value: u32,
+pub(crate) enum OfThread {
+    Live,
+    Priority,
+    First,
+    Condition,
+    Ticks,
+    Wake,
+    Reply,
 }
+
+#[derive(Clone, Copy)]
+pub(crate) enum OfSemaphore {
+    Live,
+    Count,
+    Maximum,
+    Ticks,
+    Period,
+}
+
+#[derive(Clone, Copy)]
+pub(crate) enum OfEvent {
+    Any,
+    Mask,
+    Values,
+}
+
+#[derive(Clone, Copy)]
+pub(crate) enum OfMessage {
+    Live,
+    Owner,
+    Sender,
+    Kind,
+    Size,
+    Address,
+    Channel,
+}
+
+// A table's length, or one of its places.
+#[derive(Clone, Copy)]
+pub(crate) enum OfTable {
+    Length,
+    Place,
+}
+
+#[derive(Clone, Copy)]
+pub(crate) enum Field {
+    Thread(OfThread),
+    Semaphore(OfSemaphore),
+    Event(OfEvent),
+    Message(OfMessage),
+    Places(OfTable),
+    Time(OfTable),
+    Posted(OfTable),
+    Bits,
+    Uptime,
+    Unscheduled,
+    Critical,
+    Runner,
+    Flags,
+}
+
+// All of them, in the order in which they are tried.
+pub(crate) const FIELDS: [Field; 34] = [
+    Field::Thread(OfThread::Live),
+    Field::Thread(OfThread::Priority),
+    Field::Thread(OfThread::First),
+    Field::Thread(OfThread::Condition),
+    Field::Thread(OfThread::Ticks),
+    Field::Thread(OfThread::Wake),
+    Field::Thread(OfThread::Reply),
+    Field::Semaphore(OfSemaphore::Live),
+    Field::Semaphore(OfSemaphore::Count),
+    Field::Semaphore(OfSemaphore::Maximum),
+    Field::Semaphore(OfSemaphore::Ticks),
+    Field::Semaphore(OfSemaphore::Period),
+    Field::Event(OfEvent::Any),
+    Field::Event(OfEvent::Mask),
+    Field::Event(OfEvent::Values),
+    Field::Message(OfMessage::Live),
+    Field::Message(OfMessage::Owner),
+    Field::Message(OfMessage::Sender),
+    Field::Message(OfMessage::Kind),
+    Field::Message(OfMessage::Size),
+    Field::Message(OfMessage::Address),
+    Field::Message(OfMessage::Channel),
+    Field::Places(OfTable::Length),
+    Field::Places(OfTable::Place),
+    Field::Time(OfTable::Length),
+    Field::Time(OfTable::Place),
+    Field::Posted(OfTable::Length),
+    Field::Posted(OfTable::Place),
+    Field::Bits,
+    Field::Uptime,
+    Field::Unscheduled,
+    Field::Critical,
+    Field::Runner,
+    Field::Flags,
+];
 
 // The generator's next number.
 pub(crate) fn thrown(dice: u64) -> u64 {
@@ -23,147 +111,98 @@ pub(crate) fn thrown(dice: u64) -> u64 {
     b ^ (b << 17)
 }
 
-// The damage to a field by the generator's number. Low ids are the likelier ones, since those are live, and small values are as likely
-// as large ones.
-fn damage_of(field: u8, r: u64) -> Damage {
-    Damage {
-        field: field,
-        id: ((r >> 20) % 64 >> (r >> 26) % 4) as usize,
-        value: ((r >> 32) % 4294967296) as u32 >> (r >> 27) % 32,
-    }
+fn byte(value: u32) -> u8 {
+    (value % 256) as u8
 }
 
-// A field after the damage: its number says whether it is struck.
-fn byte(d: Damage, field: u8, old: u8) -> u8 {
-    if d.field == field {
-        return (d.value % 256) as u8;
-    }
-    old
+fn half(value: u32) -> u16 {
+    (value % 65536) as u16
 }
 
-fn half(d: Damage, field: u8, old: u16) -> u16 {
-    if d.field == field {
-        return (d.value % 65536) as u16;
-    }
-    old
-}
-
-fn word(d: Damage, field: u8, old: u32) -> u32 {
-    if d.field == field {
-        return d.value;
-    }
-    old
-}
-
-fn condition(d: Damage, field: u8, old: Condition) -> Condition {
-    if d.field != field {
-        return old;
-    }
-    let v = d.value / 6;
-    match d.value % 6 {
+fn condition(value: u32) -> Condition {
+    let v = value / 6;
+    match value % 6 {
         0 => Condition::Ready,
         1 => Condition::Asleep,
-        2 => Condition::ForSemaphore((v % 256) as u8),
-        3 => Condition::ForEvent((v % 256) as u8),
-        4 => Condition::ForFlag((v % 256) as u8),
-        _ => Condition::ForMessage((v % 65536) as u16),
+        2 => Condition::ForSemaphore(byte(v)),
+        3 => Condition::ForEvent(byte(v)),
+        4 => Condition::ForFlag(byte(v)),
+        _ => Condition::ForMessage(half(v)),
     }
 }
 
-fn wake(d: Damage, field: u8, old: Wake) -> Wake {
-    if d.field == field {
-        return Wake::Met;
-    }
-    old
-}
-
-fn damaged_thread(r: Thread, d: Damage) -> Thread {
-    let c = r.condition;
-    let w = r.wake;
-    Thread {
-        live: r.live != (d.field == 0),
-        priority: byte(d, 1, r.priority),
-        first: byte(d, 2, r.first),
-        condition: condition(d, 3, c),
-        ticks: word(d, 4, r.ticks),
-        wake: wake(d, 5, w),
-        reply: byte(d, 6, r.reply),
+fn strike_thread(t: &mut Thread, field: OfThread, value: u32) {
+    match field {
+        OfThread::Live => t.live = !t.live,
+        OfThread::Priority => t.priority = byte(value),
+        OfThread::First => t.first = byte(value),
+        OfThread::Condition => t.condition = condition(value),
+        OfThread::Ticks => t.ticks = value,
+        OfThread::Wake => t.wake = Wake::Met,
+        OfThread::Reply => t.reply = byte(value),
     }
 }
 
-fn damaged_semaphore(r: Semaphore, d: Damage) -> Semaphore {
-    Semaphore {
-        live: r.live != (d.field == 7),
-        count: half(d, 8, r.count),
-        maximum: half(d, 9, r.maximum),
-        ticks: word(d, 10, r.ticks),
-        period: word(d, 11, r.period),
+fn strike_semaphore(s: &mut Semaphore, field: OfSemaphore, value: u32) {
+    match field {
+        OfSemaphore::Live => s.live = !s.live,
+        OfSemaphore::Count => s.count = half(value),
+        OfSemaphore::Maximum => s.maximum = half(value),
+        OfSemaphore::Ticks => s.ticks = value,
+        OfSemaphore::Period => s.period = value,
     }
 }
 
-fn damaged_event(r: Event, d: Damage) -> Event {
-    Event {
-        any: r.any != (d.field == 12),
-        mask: word(d, 13, r.mask),
-        values: word(d, 14, r.values),
+fn strike_event(e: &mut Event, field: OfEvent, value: u32) {
+    match field {
+        OfEvent::Any => e.any = !e.any,
+        OfEvent::Mask => e.mask = value,
+        OfEvent::Values => e.values = value,
     }
 }
 
-fn damaged_message(r: Message, d: Damage) -> Message {
-    Message {
-        live: r.live != (d.field == 15),
-        owner: byte(d, 16, r.owner),
-        sender: byte(d, 17, r.sender),
-        kind: half(d, 18, r.kind),
-        size: word(d, 19, r.size),
-        address: word(d, 20, r.address),
-        channel: byte(d, 21, r.channel),
+fn strike_message(m: &mut Message, field: OfMessage, value: u32) {
+    match field {
+        OfMessage::Live => m.live = !m.live,
+        OfMessage::Owner => m.owner = byte(value),
+        OfMessage::Sender => m.sender = byte(value),
+        OfMessage::Kind => m.kind = half(value),
+        OfMessage::Size => m.size = value,
+        OfMessage::Address => m.address = value,
+        OfMessage::Channel => m.channel = byte(value),
     }
 }
 
-// A table: the field numbers of its length and of its places.
-fn damaged_table(q: Queue, d: Damage, length: u8, places: u8) -> Queue {
-    let mut next = q;
-    let i = d.id % CAPACITY;
-    next.n = byte(d, length, q.n);
-    next.at[i] = byte(d, places, q.at[i]);
-    next
+fn strike_table(q: &mut Queue, field: OfTable, id: usize, value: u32) {
+    match field {
+        OfTable::Length => q.n = byte(value),
+        OfTable::Place => q.at[id % CAPACITY] = byte(value),
+    }
 }
 
-// A record of each kind struck.
-fn with_records(mut k: Kernel, d: Damage) -> Kernel {
-    let t = d.id % sizes::THREADS;
-    let s = d.id % sizes::SEMAPHORES;
-    let e = d.id % sizes::EVENTS;
-    let m = d.id % sizes::MESSAGES;
-    k.threads[t] = damaged_thread(k.threads[t], d);
-    k.semaphores[s] = damaged_semaphore(k.semaphores[s], d);
-    k.events[e] = damaged_event(k.events[e], d);
-    k.messages[m] = damaged_message(k.messages[m], d);
+// The state with one field struck, by the generator's number. Low ids are the likelier ones, since those are live, and small values are as
+// likely as large ones.
+pub(crate) fn damaged(mut k: Kernel, field: Field, r: u64) -> Kernel {
+    let id = ((r >> 20) % 64 >> (r >> 26) % 4) as usize;
+    let value = ((r >> 32) % 4294967296) as u32 >> (r >> 27) % 32;
+    match field {
+        Field::Thread(f) => strike_thread(&mut k.threads[id % sizes::THREADS], f, value),
+        Field::Semaphore(f) => strike_semaphore(
+            &mut k.semaphores[id % sizes::SEMAPHORES],
+            f,
+            value,
+        ),
+        Field::Event(f) => strike_event(&mut k.events[id % sizes::EVENTS], f, value),
+        Field::Message(f) => strike_message(&mut k.messages[id % sizes::MESSAGES], f, value),
+        Field::Places(f) => strike_table(&mut k.places, f, id, value),
+        Field::Time(f) => strike_table(&mut k.time, f, id, value),
+        Field::Posted(f) => strike_table(&mut k.posted, f, id, value),
+        Field::Bits => k.bits = value,
+        Field::Uptime => k.uptime = value,
+        Field::Unscheduled => k.unscheduled = byte(value),
+        Field::Critical => k.critical = byte(value),
+        Field::Runner => k.runner = byte(value),
+        Field::Flags => k.flags = half(value),
+    }
     k
-}
-
-// The tables struck.
-fn with_tables(mut k: Kernel, d: Damage) -> Kernel {
-    k.places = damaged_table(k.places, d, 22, 23);
-    k.time = damaged_table(k.time, d, 24, 25);
-    k.posted = damaged_table(k.posted, d, 26, 27);
-    k
-}
-
-// The numbers struck.
-fn with_numbers(mut k: Kernel, d: Damage) -> Kernel {
-    k.bits = word(d, 28, k.bits);
-    k.uptime = word(d, 29, k.uptime);
-    k.unscheduled = byte(d, 30, k.unscheduled);
-    k.critical = byte(d, 31, k.critical);
-    k.runner = byte(d, 32, k.runner);
-    k.flags = half(d, 33, k.flags);
-    k
-}
-
-// The state with one field struck, by the generator's number.
-pub(crate) fn damaged(k: Kernel, field: u8, r: u64) -> Kernel {
-    let d = damage_of(field, r);
-    with_numbers(with_tables(with_records(k, d), d), d)
 }

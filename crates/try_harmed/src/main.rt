@@ -21,15 +21,23 @@
 mod damage;
 
 use base_lines::input::read_full;
-use code_notes_frame::last;
 use replay::{logs, undos};
 use spec_answers::Logged;
 use spec_kernel::records::Kernel;
 use std::io;
 use try_entries::copies::copied;
 use try_entries::returned::{came_back, without_value};
+use try_entries::runs::{Logs, over_records};
 use try_entries::tallies::Tally;
 use try_entries::{again, entries, report, tallies};
+
+// A trial: the record on a damaged state, with so much of the log used.
+#[derive(Clone, Copy)]
+struct Trial {
+    state: Kernel,
+    bytes: [u8; 16],
+    used: usize,
+}
 
 // The end of a trial: the number that came back, the used length after it, and whether all was right.
 #[derive(Clone, Copy)]
@@ -58,74 +66,65 @@ struct Run {
 // ---- one trial
 
 // A broken state: every entry that answers says 14 and hands back what it was given, with room and without, and nothing is appended.
-fn on_broken(d: Kernel, bytes: [u8; 16], log: &mut [u8; 16384], used: usize) -> bool {
+fn on_broken(t: &Trial, log: &mut [u8]) -> bool {
     let a = without_value(14, 255);
-    if !came_back(undos::undo(d, log, used), a, d, used) {
-        return false;
-    }
-    if !entries::refused(d, bytes, log, 0, a).right {
-        return false;
-    }
-    entries::refused(d, bytes, log, used, a).right
+    came_back(undos::undo(t.state, log, t.used), a, t.state, t.used)
+        && entries::refused(t.state, t.bytes, log, 0, a).right
+        && entries::refused(t.state, t.bytes, log, t.used, a).right
 }
 
 // A call that is refused where there is room gave l: refused as it must be, and with the log the same.
-fn on_refused(l: Logged, d: Kernel, bytes: [u8; 16], log: &mut [u8; 16384], used: usize) -> bool {
-    let a = without_value(l.answer.number, d.runner);
-    if !came_back(l, a, d, 0) {
-        return false;
-    }
-    entries::refused(d, bytes, log, used, a).right
+fn on_refused(l: Logged, t: &Trial, log: &mut [u8]) -> bool {
+    let a = without_value(l.answer.number, t.state.runner);
+    came_back(l, a, t.state, 0) && entries::refused(t.state, t.bytes, log, t.used, a).right
 }
 
 // A call that is accepted where there is room gave l: with the log the same answer, the same state and a note as long; its undo gives the
 // damaged state back; appended, it hands back the note.
-fn on_accepted(
-    l: Logged,
-    d: Kernel,
-    bytes: [u8; 16],
-    log: &mut [u8; 16384],
-    used: usize,
-    end: usize,
-) -> bool {
-    let noted = logs::called(d, bytes, log, used);
-    if !came_back(noted, l.answer, l.kernel, end) {
-        return false;
-    }
-    if !entries::accepted(noted, log, d, used) {
-        return false;
-    }
-    entries::appended(d, bytes, log, used) == l.used
-}
-
-fn ended(number: u8, end: usize, right: bool) -> Ending {
-    Ending {
-        number: number,
-        end: end,
-        right: right,
-    }
+fn on_accepted(l: Logged, t: &Trial, log: &mut [u8], end: usize) -> bool {
+    let noted = logs::called(t.state, t.bytes, log, t.used);
+    came_back(noted, l.answer, l.kernel, end)
+        && entries::accepted(noted, log, t.state, t.used)
+        && entries::appended(t.state, t.bytes, log, t.used) == l.used
 }
 
 // A state that keeps its rules: where there is room the call gave l. A used length beyond the log leaves none.
-fn on_kept(l: Logged, d: Kernel, bytes: [u8; 16], log: &mut [u8; 16384], used: usize) -> Ending {
+fn on_kept(l: Logged, t: &Trial, log: &mut [u8]) -> Ending {
     let number = l.answer.number;
     if number != 0 {
-        return ended(number, used, on_refused(l, d, bytes, log, used));
+        Ending {
+            number,
+            end: t.used,
+            right: on_refused(l, t, log),
+        }
+    } else if log.len() < t.used {
+        let a = without_value(13, t.state.runner);
+        Ending {
+            number: 13,
+            end: t.used,
+            right: entries::refused(t.state, t.bytes, log, t.used, a).right,
+        }
+    } else {
+        let end = t.used.wrapping_add(l.used);
+        Ending {
+            number: 0,
+            end,
+            right: on_accepted(l, t, log, end),
+        }
     }
-    if 16384 < used {
-        let a = without_value(13, d.runner);
-        return ended(13, used, entries::refused(d, bytes, log, used, a).right);
-    }
-    let end = std::num::wrapping_add_usize(used, l.used);
-    ended(0, end, on_accepted(l, d, bytes, log, used, end))
 }
 
 // The record on a damaged state, through every entry.
-fn entered(d: Kernel, bytes: [u8; 16], log: &mut [u8; 16384], used: usize) -> Ending {
-    if !code_rules::keeps_rules(d) {
-        return ended(14, used, on_broken(d, bytes, log, used));
+fn entered(t: &Trial, log: &mut [u8]) -> Ending {
+    if code_rules::keeps_rules(t.state) {
+        on_kept(again::apart(t.state, t.bytes), t, log)
+    } else {
+        Ending {
+            number: 14,
+            end: t.used,
+            right: on_broken(t, log),
+        }
     }
-    on_kept(again::apart(d, bytes), d, bytes, log, used)
 }
 
 // ---- the run
@@ -135,71 +134,45 @@ fn length_of(r: u64, used: usize) -> usize {
     match r % 16 {
         0 => 0,
         1 => 16385,
-        2 => 18446744073709551615,
+        2 => usize::MAX,
         _ => used,
     }
 }
 
-// The end of a trial: a note that it wrote is taken off the log, which then must be what it was.
-fn settled(h: Harm, o: Ending, log: &mut [u8; 16384], copy: &[u8; 16384], used: usize) -> Harm {
-    let kept = copied(log, copy, used, o.end);
+// One trial more. A note that it wrote is taken off the log, which then must be what it was.
+fn tried(h: Harm, t: &Trial, both: &mut Logs) -> Harm {
+    let o = entered(t, &mut both.log);
+    let kept = copied(&mut both.log, &both.copy, t.used, o.end);
     Harm {
         states: tallies::counted(h.states, tallies::ended(o.number, o.right && kept)),
         dice: damage::thrown(h.dice),
     }
 }
 
-// A trial with one field damaged.
-fn trial(
-    h: Harm,
-    k: Kernel,
-    field: u8,
-    bytes: [u8; 16],
-    log: &mut [u8; 16384],
-    copy: &[u8; 16384],
-    used: usize,
-) -> Harm {
-    let n = length_of(h.dice, used);
-    let o = entered(damage::damaged(k, field, h.dice), bytes, log, n);
-    settled(h, o, log, copy, n)
-}
-
-// A trial with each field.
-fn trials(
-    h: Harm,
-    k: Kernel,
-    bytes: [u8; 16],
-    log: &mut [u8; 16384],
-    copy: &[u8; 16384],
-    used: usize,
-) -> Harm {
-    let mut next = h;
-    let mut field: u8 = 0;
-    while field < damage::FIELDS {
-        next = trial(next, k, field, bytes, log, copy, used);
-        field += 1;
+// A trial with each field damaged.
+fn trials(mut h: Harm, k: Kernel, bytes: [u8; 16], used: usize, both: &mut Logs) -> Harm {
+    for field in damage::FIELDS {
+        let t = Trial {
+            state: damage::damaged(k, field, h.dice),
+            bytes,
+            used: length_of(h.dice, used),
+        };
+        h = tried(h, &t, both);
     }
-    next
+    h
 }
 
-// The record itself gave l, and `only` tells whether it wrote no more than its note.
-fn recorded(l: Logged, only: bool, records: Tally, h: Harm) -> Run {
-    let state = l.kernel;
+// One record more, with the damage before it; the copy takes over its note, and a record that wrote more is wrong.
+fn next(run: Run, bytes: [u8; 16], both: &mut Logs) -> Run {
+    let harm = trials(run.harm, run.kernel, bytes, run.used, both);
+    let l = logs::called(run.kernel, bytes, &mut both.log, run.used);
+    let only = copied(&mut both.copy, &both.log, run.used, l.used);
     Run {
-        kernel: state,
+        kernel: l.kernel,
         used: l.used,
-        records: tallies::counted(records, tallies::ended(l.answer.number, only)),
-        harm: h,
+        records: tallies::counted(run.records, tallies::ended(l.answer.number, only)),
+        harm,
     }
-}
-
-// One record more, with the damage before it; the copy takes over its note.
-fn next(run: Run, bytes: [u8; 16], log: &mut [u8; 16384], copy: &mut [u8; 16384]) -> Run {
-    let from = run.used;
-    let h = trials(run.harm, run.kernel, bytes, log, copy, from);
-    let l = logs::called(run.kernel, bytes, log, from);
-    let only = copied(copy, log, from, l.used);
-    recorded(l, only, run.records, h)
 }
 
 // Fresh, and no trial yet.
@@ -215,18 +188,6 @@ fn started() -> Run {
     }
 }
 
-// The whole records of s, with one log and its copy; a shorter tail is dropped.
-fn all(s: &[u8], log: &mut [u8; 16384], copy: &mut [u8; 16384]) -> Run {
-    let mut run = started();
-    let mut at: usize = 0;
-    while 16 <= s.len() - at {
-        let bytes = last::call_bytes(&s[at..]);
-        at += 16;
-        run = next(run, bytes, log, copy);
-    }
-    run
-}
-
 // The lines.
 fn shown(rt: &impl Print, records: Tally, states: Tally) -> io::Result<()> {
     let some = report::line_of_states(rt, b"records ", records, 0)?;
@@ -235,21 +196,9 @@ fn shown(rt: &impl Print, records: Tally, states: Tally) -> io::Result<()> {
     Ok(())
 }
 
-// The run on arrays, which are lent whole.
-fn run_on(
-    rt: &impl Print,
-    s: &[u8],
-    log: &mut [u8; 16384],
-    copy: &mut [u8; 16384],
-) -> io::Result<()> {
-    let run = all(s, log, copy);
-    shown(rt, run.records, run.harm.states)
-}
-
 fn main(rt: HostRuntime) -> io::Result<()> {
-    let mut log = [165u8; 16384];
-    let mut copy = [165u8; 16384];
     let mut records = [0u8; 65536];
     let n = read_full(&mut rt.reader(), &mut records)?;
-    run_on(&rt, &records[..n], &mut log, &mut copy)
+    let run = over_records(&records[..n], started(), next);
+    shown(&rt, run.records, run.harm.states)
 }

@@ -1,10 +1,6 @@
 -- `app_printed::replayed`: the state keeps its rules at each record.
-use Rattle.std.proofs.Common.{◌-◌, ◌≤◌, length}
 use Rattle.spec_rules.specs.Rules.{Rules}
 use Rattle.app_printed.proofs.replayed.Given as goal
 
-abbrev pub invariant-loop-at : goal.invariant-loop-at
-invariant-loop-at l = (l.at ≤ length l.s) × Rules l.run.kernel
-
-abbrev pub decreases-loop-at : goal.decreases-loop-at
-decreases-loop-at l = length l.s - l.at
+abbrev pub invariant-loop-bytes : goal.invariant-loop-bytes
+invariant-loop-bytes l = Rules l.run.kernel

@@ -1,7 +1,6 @@
 -- `app_rounds::round` meets what its calls require.
-use Rattle.std.proofs.Common.{rules}
 use Rattle.spec_answers.proofs.WithLogs.{rules_go_on}
 use Rattle.app_rounds.proofs.round.Goals as goal
 
-pub loop-at-preserved : goal.loop-at-preserved
-loop-at-preserved c = (search rules, rules_go_on c.recorded-l.ensures c.loop-at.invariant.1)
+pub loop-bytes-preserved : goal.loop-bytes-preserved
+loop-bytes-preserved c = rules_go_on c.recorded-l.ensures c.loop-bytes.invariant

@@ -1,9 +1,6 @@
--- `try_broken::show_all`: the lines are gone through.
-use Rattle.std.proofs.Common.{◌-◌, ◌≤◌, length}
+-- `try_broken::show_all`: the rest gets shorter with each line.
+use Rattle.std.proofs.Common.{length}
 use Rattle.try_broken.proofs.show_all.Given as goal
 
-abbrev pub invariant-loop-at : goal.invariant-loop-at
-invariant-loop-at g l = l.at ≤ length l.s
-
-abbrev pub decreases-loop-at : goal.decreases-loop-at
-decreases-loop-at g l = length l.s - l.at
+abbrev pub decreases-loop-rest : goal.decreases-loop-rest
+decreases-loop-rest g l = length l.rest
