@@ -6,5 +6,4 @@ pub mod copies;
 pub mod entries;
 pub mod report;
 pub mod returned;
-pub mod runs;
 pub mod tallies;

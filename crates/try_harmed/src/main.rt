@@ -25,9 +25,8 @@ use replay::{logs, undos};
 use spec_answers::Logged;
 use spec_kernel::records::Kernel;
 use std::io;
-use try_entries::copies::copied;
+use try_entries::copies::{Logs, copied};
 use try_entries::returned::{came_back, without_value};
-use try_entries::runs::{Logs, over_records};
 use try_entries::tallies::Tally;
 use try_entries::{again, entries, report, tallies};
 
@@ -196,9 +195,22 @@ fn shown(rt: &impl Print, records: Tally, states: Tally) -> io::Result<()> {
     Ok(())
 }
 
+// The whole records of s, one after the other; a shorter tail is dropped.
+fn replayed(s: &[u8]) -> Run {
+    let mut both = Logs {
+        log: [165u8; 16384],
+        copy: [165u8; 16384],
+    };
+    let mut run = started();
+    for bytes in s.as_chunks::<16>().0 {
+        run = next(run, *bytes, &mut both);
+    }
+    run
+}
+
 fn main(rt: HostRuntime) -> io::Result<()> {
     let mut records = [0u8; 65536];
     let n = read_full(&mut rt.reader(), &mut records)?;
-    let run = over_records(&records[..n], started(), next);
+    let run = replayed(&records[..n]);
     shown(&rt, run.records, run.harm.states)
 }
