@@ -102,7 +102,7 @@ fn on_flip(k: Kernel, log: &mut [u8], at: usize, bits: u8, used: usize) -> Outco
 // Each bit of the note.
 fn flips(mut t: Tally, k: Kernel, log: &mut [u8], at: Note) -> Tally {
     for place in at.from..at.to {
-        for bit in 0..8 {
+        for bit in 0..8u32 {
             t = counted(t, on_flip(k, log, place, 1 << bit, at.to));
         }
     }
