@@ -99,7 +99,7 @@ def note_lengths(log):
 def kinds():
     """Each kind, and its number with its line of text, which stands behind its row in the table of kinds."""
     with open(KINDS, encoding='utf8') as table:
-        return [(int(kind), kind + ' ' + line) for kind, line in re.findall(r'^ +0x[0-9a-f]+, // ([0-9]+): (.*)$', table.read(), re.M)]
+        return [(int(kind), kind + ' ' + line) for kind, line in re.findall(r'^ +row!\([^)]*\), // ([0-9]+): (.*)$', table.read(), re.M)]
 
 
 def print_lengths(proved, work, seeds):
