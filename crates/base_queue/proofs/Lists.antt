@@ -1,6 +1,6 @@
 -- Laws on lists, for the proofs here and in the crates above: a loop's next turn and its end, what a test of every member
 -- means, and a list with one member more or one fewer.
-use Prim.Native.Nat.{ℕ, zero, suc, ◌+◌, ◌≤◌, ◌<◌, min}
+use Prim.Native.Nat.{ℕ, zero, suc, ◌+◌, ◌-◌, ◌≤◌, ◌<◌, min}
 use mathlib.Core.Path.{◌≡◌, refl, sym, ap, ◌∙◌}
 use mathlib.Core.List.{List, [], ◌∷◌, ◌++◌}
 use mathlib.Core.Bool.{Bool, true, false, not, cond, ◌&&◌, false≢true}
@@ -9,8 +9,8 @@ use native.Mathlib.Numerals.{add-one, one-add}
 use native.Mathlib.Omega.{arith}
 use lib.Dec.{eqb, ltb, leb-suc-suc}
 use lib.ListN.{length, take, drop, get_or, replicate}
-use lib.ListN.{length-take, length-replicate, get_or-replicate, drop_of_length-le}
-use lib.Seq.{take-suc, drop-cons, get_or-take, ext_get_or}
+use lib.ListN.{length-append, length-take, length-drop, length-replicate, get_or-replicate, drop_of_length-le}
+use lib.Seq.{take-suc, drop-cons, get_or-take, take_at, get_or_at, length-take-le, ext_get_or}
 use borrow.Author.Tests.{eq-eqb, lt-ltb, ltb-false, eqb-true}
 use Rattle.std.specs.Prelude.{unwrap_or, position}
 use Rattle.std.specs.List.{position_or_len, list_all}
@@ -29,6 +29,9 @@ module _ {A : Type 0} where
   take_size zero l = refl
   take_size (suc n) [] = refl
   take_size (suc n) (x ∷ l) = ap {B = List A} (λ r. x ∷ r) (take_size n l)
+
+  pub take_front : (i : ℕ) (l m : List A) → i ≤ length l → take i (take i l ++ m) ≡ take i l
+  take_front i l m h = take_at (take i l) m i (length-take-le i l h)
 
   -- what a walk over the first n has before it at k: the member there and the rest; at the end, nothing
   pub rest_next : (d : A) (l : List A) (n k : ℕ) → k < n → k < length l → drop k (take n l) ≡ get_or l k d ∷ drop (k + 1) (take n l)
@@ -112,11 +115,24 @@ module _ (x : ℕ) where
       go true e = lt-ltb 0 (suc (length l)) (omega arith) ∙ sym (lt-ltb 0 (suc (count x l)) (omega arith))
       go false e = leb-suc-suc (suc (place_of x l)) (length l) ∙ e
 
+  -- x is put in: itself, and those after it
+  pub with_at_here : (i : ℕ) (l : List ℕ) → i ≤ length l → get_or (with_at i x l) i 0 ≡ x
+  with_at_here i l h = get_or_at (take i l) x (drop i l) 0 i (length-take-le i l h)
+
+  pub with_at_after : (i k : ℕ) (l : List ℕ) → i ≤ k → get_or (with_at i x l) (suc k) 0 ≡ get_or l k 0
+  with_at_after zero k l h = refl
+  with_at_after (suc i) k [] h = refl
+  with_at_after (suc i) zero (y ∷ l) h = absurd (omega arith)
+  with_at_after (suc i) (suc k) (y ∷ l) h = with_at_after i k l (omega arith)
+
   -- past the end is at the end
   pub with_at_min : (i : ℕ) (l : List ℕ) → with_at i x l ≡ with_at (min i (length l)) x l
   with_at_min zero l = rw zero-min
   with_at_min (suc i) [] = rw min-zero
   with_at_min (suc i) (y ∷ l) = rw suc-min-suc (ap {B = List ℕ} (λ r. y ∷ r) (with_at_min i l))
+
+  pub length_with_at : (i : ℕ) (l : List ℕ) → length (with_at i x l) ≡ length l + 1
+  length_with_at i l = simp (length-append, length-take, length-drop) (omega arith)
 
 pub zeros_means : (l : List ℕ) → all_zero l ≡ true → l ≡ replicate (length l) 0
 zeros_means l e =

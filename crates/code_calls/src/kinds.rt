@@ -25,8 +25,9 @@ macro_rules! row {
 
 const NO_KIND: Kind = row!(Thread 0 Nobody Nobody Nobody Nobody Nobody);
 
-// Behind a row stands the line of text that `records` reads for its kind.
-const KINDS: [Kind; ROWS] = [
+// The table stands once, behind a reference: by value it would be made anew at each look. Behind a row stands the line of text that `records`
+// reads for its kind.
+const KINDS: &[Kind; ROWS] = &[
     row!(Thread 0 Nobody Nobody Nobody Nobody Nobody), // no kind
     row!(Interrupt 0 Any Any Nobody Nobody Nobody), // 1: tick
     row!(ThreadOrBoot 1 New Nobody Nobody Nobody Nobody), // 2: create thread A
@@ -68,7 +69,8 @@ const KINDS: [Kind; ROWS] = [
 pub fn kind_of(c: Call) -> Kind
     ensures { result ≡ kind_of c }
 {
-    KINDS.get(c.kind as usize).copied().unwrap_or(NO_KIND)
+    let i = c.kind as usize;
+    if i < ROWS { KINDS[i] } else { NO_KIND }
 }
 
 // Whether a call names one by its field a or b.

@@ -46,11 +46,12 @@ pub fn no_message() -> Message
     }
 }
 
-// The record at i of a table, or past its last one `none`.
+// The record at i of a table, or past its last one `none`. By an index and not by `get`: what is asked for is then read where it lies, and
+// not from a copy of the table.
 pub fn record_at<T: Copy>(records: &[T], i: usize, none: T) -> T
     ensures { result ≡ get_or records.now i none }
 {
-    records.get(i).copied().unwrap_or(none)
+    if i < records.len() { records[i] } else { none }
 }
 
 // Whether a flag is live: that is all of its record. No id too large is.

@@ -28,7 +28,7 @@ fn alone(size: u8, x: u16) -> Span
     }
 }
 
-// The ids of a class, by its column of the row of the call's kind_of(c).
+// The ids of a class, by its column of the row of the call's kind.
 #[tactic(auto, unfolding(crate::specs::Spans::span_of))]
 fn span_of(size: u8, which: Which, c: Call, runner: u8, value: u8, waiter: u8) -> Span
     ensures { meant result ≡ span_of size which c runner value waiter }

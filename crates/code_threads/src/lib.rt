@@ -114,7 +114,8 @@ fn freed_from(t: u8, r: Message) -> Message
     if owns(t, r) { no_message() } else { r }
 }
 
-// Every message that thread t owns is freed,
+// Every message that thread t owns is freed, by a loop that isn't written out in the caller (see `code_kernel_find::free`),
+#[inline(never)]
 fn freed_records(messages: [Message; sizes::MESSAGES], t: u8) -> [Message; sizes::MESSAGES]
     ensures { result ≡ map (freed_from t) messages }
 {
@@ -122,6 +123,7 @@ fn freed_records(messages: [Message; sizes::MESSAGES], t: u8) -> [Message; sizes
 }
 
 // and leaves its channel.
+#[inline(never)]
 fn freed_posts(messages: [Message; sizes::MESSAGES], posted: Queue, t: u8) -> Queue
     ensures { result ≡ pack (keep (λ m. not (owns t (get_or messages m no_message))) (items posted)) }
 {

@@ -59,7 +59,8 @@ fn aged(r: Thread) -> Thread
     }
 }
 
-// Every thread with ticks left loses one.
+// Every thread with ticks left loses one, by a loop that isn't written out in the caller (see `code_kernel_find::free`).
+#[inline(never)]
 fn aged_records(threads: [Thread; sizes::THREADS]) -> [Thread; sizes::THREADS]
     ensures { result ≡ map aged threads }
 {
