@@ -66,6 +66,10 @@ module _ (word i : ℕ) where
   unfolding bit_at
   bit_has h = rw (lt-ltb i 32 h)
 
+  -- There it is the digit.
+  pub bit_low : i < 32 → bit_at word i ≡ eqb (word / 2 ^ i % 2) 1
+  bit_low h = bit_has h ∙ has_low
+
   -- No bit above 31 is set.
   pub bit_high : 32 ≤ i → bit_at word i ≡ false
   unfolding bit_at

@@ -84,9 +84,15 @@ module _ (word i : ℕ) (h : i < 32) where
       let sum : bit_or word (2 ^ i) + digit (bit_at word i) * 2 ^ i ≡ word + 2 ^ i = rw and_bit at (or_add_and word (2 ^ i)) in
       rw (lt-ltb i 32 h) (either (bit_at word i) (λ e. rw e (omega (arith, rw e at sum))) (λ e. rw e (omega (arith, rw e at sum))))
 
-  pub without_and : word < 2 ^ 32 → without_bit word i ≡ bit_and word (2 ^ 32 - 1 - 2 ^ i)
+  -- the word less what it shares with the bit alone
+  pub without_and : without_bit word i ≡ word - bit_and word (2 ^ i)
   unfolding without_bit
-  without_and s =
+  without_and = rw and_bit (either (bit_at word i) (λ e. rw e (omega arith)) (λ e. rw e (omega arith)))
+
+  -- or what it shares with all other bits
+  pub without_mask : word < 2 ^ 32 → without_bit word i ≡ bit_and word (2 ^ 32 - 1 - 2 ^ i)
+  unfolding without_bit
+  without_mask s =
       let sum : bit_and word (2 ^ 32 - 1 - 2 ^ i) + digit (bit_at word i) * 2 ^ i ≡ word = rw and_bit at (and_rest 32 word (2 ^ i) s (pow-lt h)) in
       either (bit_at word i) (λ e. rw e (omega (arith, rw e at sum))) (λ e. rw e (omega (arith, rw e at sum)))
 

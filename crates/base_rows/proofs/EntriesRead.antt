@@ -10,7 +10,7 @@ use lib.ListN.{length, get_or, take, drop, length-append, length-drop, drop_of_l
 use lib.Seq.{drop-drop, take_all}
 use borrow.Author.Tests.{eqb-true}
 use borrow.Table.Steps.{cases}
-use Rattle.base_rows.specs.Rows.{flags_of, body_of, first_flagged, taken, sum}
+use Rattle.base_rows.specs.Rows.{flag_of, flags_of, body_of, first_flagged, taken, sum}
 use Rattle.base_rows.specs.Entries.{unless_predicted, code_noted, head_of, tail_of, id_of, fields_from, code_in, flags_in}
 use Rattle.base_rows.specs.Entries.{read_entries}
 use Rattle.base_bytes.proofs.Turns.{drop_least}
@@ -18,6 +18,10 @@ use Rattle.base_rows.proofs.Codec.{body_short}
 use Rattle.base_rows.proofs.Fitted.{Bytes, drop_bytes}
 
 -- ---- the head
+-- a flag is a bit
+pub flag_small : (o p : ℕ) → flag_of o p ≤ 1
+flag_small o p = cases (eqb o p) (λ e. rw e (omega arith)) (λ e. rw e (omega arith))
+
 pub taken_small : (w flags : ℕ) → taken w flags ≤ w
 taken_small w flags = cases (first_flagged flags) (λ e. rw e (omega arith)) (λ e. rw e (omega arith))
 

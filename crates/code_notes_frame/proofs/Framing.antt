@@ -1,11 +1,11 @@
 -- Laws on a note's frame: each section from where it begins to where the next one does.
 use Prim.Native.Nat.{ℕ, zero, suc, ◌+◌, ◌-◌, ◌*◌, ◌≤◌, ◌<◌, min}
 use mathlib.Core.Path.{◌≡◌, refl, sym, ap, ◌∙◌}
-use mathlib.Core.List.{List, [], ◌++◌, append-nil}
+use mathlib.Core.List.{List, [], ◌∷◌, ◌++◌, append-nil}
 use native.Mathlib.Omega.{arith}
 use lib.Dec.{eqb, leb}
-use lib.ListN.{length, take, drop, get_or, replicate, length-take, length-drop, get_or-eq_default}
-use lib.Seq.{drop-drop, take-append-le, take-append-add, take-length}
+use lib.ListN.{length, take, drop, get_or, replicate, length-take, length-append, length-drop, get_or-eq_default}
+use lib.Seq.{drop-drop, take-append-le, take-append-add, take-length, get_or-take}
 use Rattle.std.proofs.lemmas.List.{drop-replicate, take-replicate}
 use borrow.Author.Tests.{eq-eqb, ne_eqb, eqb-true, eqb-false, le-leb, lt-leb, leb-true, leb-false}
 use borrow.Table.Steps.{cases}
@@ -116,6 +116,24 @@ module _ (note : List ℕ) where
 pub record_whole : (note : List ℕ) → 16 ≤ length note → record_of note ≡ call_bytes note
 unfolding record_of call_bytes
 record_whole note h = take-append-le 16 note (replicate 16 0) h
+
+-- it has sixteen bytes
+pub record_size : (note : List ℕ) → length (record_of note) ≡ 16
+unfolding record_of
+record_size note = simp (length-take, length-append) (omega arith)
+
+-- zeros behind a list change none of its elements
+padded : (n : ℕ) (s : List ℕ) (k : ℕ) → get_or {A = ℕ} (s ++ replicate n 0) k 0 ≡ get_or s k 0
+padded zero [] k = refl
+padded (suc n) [] zero = refl
+padded (suc n) [] (suc k) = padded n [] k
+padded n (b ∷ s) zero = refl
+padded n (b ∷ s) (suc k) = padded n s k
+
+-- each is the note's byte there, or 0 past its end
+pub record_byte : (note : List ℕ) (i : ℕ) → i < 16 → get_or (record_of note) i 0 ≡ get_or note i 0
+unfolding record_of
+record_byte note i h = get_or-take 16 (note ++ replicate 16 0) i 0 h ∙ padded 16 note i
 
 -- its bytes as far as the note has them, and zeros behind
 pub record_padded : (note : List ℕ) (n : ℕ) → n ≡ min (length note) 16 → take n note ++ drop n (replicate 16 0) ≡ record_of note

@@ -31,3 +31,10 @@ row_pairs [] [] = refl
 row_pairs [] (y ∷ b) = refl
 row_pairs (x ∷ a) [] = refl
 row_pairs (x ∷ a) (y ∷ b) = ap (λ (r : Bool). eqb x y && r) (row_pairs a b)
+
+-- two rows are the same where all their numbers are
+pub row_all : (a b : List ℕ) → same_row a b ≡ same_all eqb a b
+row_all [] [] = refl
+row_all [] (y ∷ b) = refl
+row_all (x ∷ a) [] = refl
+row_all (x ∷ a) (y ∷ b) = rw (row_all a b)
