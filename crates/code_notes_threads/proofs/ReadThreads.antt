@@ -1,10 +1,13 @@
--- What is read of the threads' section fits.
-use Prim.Native.Nat.{ℕ, ◌^◌, ◌<◌}
+-- The records from i on, and that what is read of the threads' section fits.
+use Prim.Native.Nat.{ℕ, ◌+◌, ◌^◌, ◌<◌}
 use mathlib.Core.Path.{◌≡◌}
 use mathlib.Core.Bool.{cond, not, ◌&&◌, ◌||◌}
-use mathlib.Core.List.{List, [], ◌∷◌}
+use mathlib.Core.List.{List, [], ◌∷◌, map}
+use native.Mathlib.Numerals.{add-one}
 use native.Mathlib.Omega.{arith}
 use lib.Dec.{eqb, ltb}
+use lib.ListN.{length, get_or, drop}
+use lib.Seq.{drop-cons}
 use borrow.Table.Steps.{cases}
 use Rattle.base_rows.specs.Rows.{cut, fitted, Fit}
 use Rattle.base_rows.specs.Entries.{row_in}
@@ -17,6 +20,11 @@ use Rattle.spec_notes.specs.Rows.{condition_data, thread_widths}
 use Rattle.spec_notes.specs.Predicted.{was_blocked, blocks, data_now, predicted_thread}
 use Rattle.spec_notes.proofs.ThreadsBack.{wake_below}
 use Rattle.code_notes_entries.proofs.Fits.{below, read_fits}
+
+-- the records from i on, one after another
+pub map_next : {A B : Type 0} (f : A → B) (d : A) (l : List A) (i : ℕ) → i < length l
+    → map f (drop i l) ≡ f (get_or l i d) ∷ map f (drop (i + 1) l)
+map_next f d l i h = rw (add-one, drop-cons l i d h)
 
 -- ---- what is predicted fits its widths
 -- a thread whose fields are as wide as their types

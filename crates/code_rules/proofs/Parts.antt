@@ -1,7 +1,7 @@
 -- The parts of the test, from what the passes over the records tell, and the groups that the code goes through.
 use Prim.Native.Nat.{ℕ}
 use mathlib.Core.Path.{◌≡◌, refl}
-use mathlib.Core.Bool.{Bool, true, false, ◌&&◌, and-true, and-false}
+use mathlib.Core.Bool.{Bool, true, false, ◌&&◌, ◌||◌, and-true, and-false}
 use mathlib.Core.List.{List, [], ◌∷◌}
 use lib.Dec.{eqb}
 use lib.ListN.{length, get_or}
@@ -21,6 +21,7 @@ use Rattle.spec_rules.specs.declared.tests.Asked.{Asked}
 use Rattle.spec_rules.specs.Tests.{all_of, is_ticking, places_kept, time_kept, posted_kept, in_rank, in_time, in_stream}
 use Rattle.spec_rules.specs.Tests.{threads_kept, semaphores_kept, messages_kept, runner_kept}
 use Rattle.spec_rules.specs.Tests.{if_asked, conditions_asked, owners_asked, keeps_asked}
+use Rattle.spec_rules.proofs.Asked.{neither}
 use Rattle.code_rules_records.specs.Others.{Objects}
 use Rattle.code_rules.specs.declared.told.Semaphores.{Semaphores}
 use Rattle.code_rules.specs.declared.told.Threads.{Threads}
@@ -75,6 +76,18 @@ module _ (k : Kernel) where
     posted_part = table_kept is_queued stream_of k.messages no_message refl M.full M.queued M.streams k.posted
 
 -- ---- the groups
+-- what isn't gone through isn't asked for
+pub no_conditions : (asked : Asked) (k : Kernel) → conditions_asked asked ≡ false → true ≡ all_of (thread_tests asked k)
+no_conditions asked k h =
+    let (objects, _) = neither (asked.threads || asked.semaphores || asked.events) asked.flags h in
+    let (others, _) = neither (asked.threads || asked.semaphores) asked.events objects in
+    let (t, s) = neither asked.threads asked.semaphores others in
+    rw (h, t, s)
+
+-- without the owners, nor are the messages
+pub no_owners : (asked : Asked) (k : Kernel) → owners_asked asked ≡ false → true ≡ all_of (message_tests asked k)
+no_owners asked k h = rw (h, (neither asked.threads asked.messages h).1)
+
 regroup : (places time posted threads semaphores messages runner : Bool)
     → all_of (places ∷ time ∷ posted ∷ threads ∷ semaphores ∷ messages ∷ runner ∷ [])
     ≡ (all_of (semaphores ∷ threads ∷ places ∷ time ∷ []) && (all_of (messages ∷ posted ∷ []) && runner))

@@ -21,6 +21,10 @@ module _ (f : ℕ → Threads → Threads) where
     abbrev pub Walked : List ℕ → ℕ → Threads → Type 0
     Walked l i next = next ≡ each f (keep g (take i l)) p
 
+    -- none has had its turn
+    pub walk_starts : (l : List ℕ) → Walked l 0 p
+    walk_starts l = refl
+
     module _ (l : List ℕ) {i : ℕ} {next : Threads} (w : Walked l i next) where
       -- with the one at i too
       pub walk_does : i < length l → g (get_or l i 0) ≡ true → Walked l (i + 1) (f (get_or l i 0) next)
