@@ -23,11 +23,15 @@ fn record_in(c: Call, r: Semaphore, e: &[u8]) -> Semaphore
     semaphore_rows::from_row(row.fields)
 }
 
-// Every semaphore as it was where the call did no more than age it.
+// Every semaphore as it was where the call did no more than age it. A loop and not `map`, as for threads.
 fn younger_all(c: Call, new: [Semaphore; SEMAPHORES]) -> [Semaphore; SEMAPHORES]
     ensures { result ≡ map (younger_semaphore c) new }
 {
-    new.map(|r| semaphore_rows::younger(c, r))
+    let mut old = new;
+    for i in 0..SEMAPHORES {
+        old[i] = semaphore_rows::younger(c, new[i]);
+    }
+    old
 }
 
 // Entry by entry.

@@ -24,11 +24,15 @@ pub struct Threading {
     pub due: [u8; CAPACITY],
 }
 
-// Every record as it was, where the call did not touch it.
+// Every record as it was, where the call did not touch it. A loop, since `map` takes several times as long, and each undo goes through here.
 fn all_younger(c: Call, new: [Thread; sizes::THREADS]) -> [Thread; sizes::THREADS]
     ensures { result ≡ map (younger_thread c) new }
 {
-    new.map(|r| thread_rows::younger(c, r))
+    let mut old = new;
+    for t in 0..sizes::THREADS {
+        old[t] = thread_rows::younger(c, new[t]);
+    }
+    old
 }
 
 // Thread t has the record r and is touched; it stood at `place` of `places` and at `due` of the time queue.
