@@ -1,10 +1,12 @@
 -- The ways out of a call on an image's state, each from what its tests have found.
-use Prim.Native.Nat.{ℕ, ◌+◌}
-use mathlib.Core.Path.{◌≡◌, refl, ap, ◌∙◌}
+use Prim.Native.Nat.{ℕ, ◌+◌, ◌-◌, ◌≤◌}
+use mathlib.Core.Path.{◌≡◌, refl, sym, ap, ◌∙◌}
 use mathlib.Core.Bool.{Bool, true, false, cond}
 use mathlib.Core.List.{List}
-use lib.Dec.{eqb}
+use native.Mathlib.Omega.{arith}
+use lib.Dec.{eqb, leb}
 use lib.ListN.{length, replicate}
+use borrow.Author.Tests.{le-leb, lt-leb, leb-true, leb-false}
 use borrow.Table.Steps.{cases}
 use Rattle.base_bytes.specs.Logs.{room, noted, ends}
 use Rattle.spec_kernel.specs.declared.records.Kernel.{Kernel}
@@ -19,6 +21,12 @@ use Rattle.spec_answers.specs.Logs.{state_after, note_for, recorded, log_after}
 use Rattle.spec_images.specs.declared.Stored.{Stored}
 use Rattle.spec_images.specs.Images.{image_of}
 use Rattle.spec_images.specs.OnImages.{fits, stored, keeping, keeping_in}
+
+-- what fits behind the used part
+pub leb_behind : (used size n : ℕ) → used ≤ n → leb size (n - used) ≡ leb (used + size) n
+leb_behind used size n b =
+    cases (leb size (n - used)) (λ e. rw e (sym (le-leb (used + size) n (omega (arith, leb-true size (n - used) e)))))
+    (λ e. rw e (sym (lt-leb (used + size) n (omega (arith, leb-false size (n - used) e)))))
 
 -- where a note ends that has room
 pub ends_behind : (log : List ℕ) (used : ℕ) (note : List ℕ) → room log used note ≡ true → ends log used note ≡ used + length note
