@@ -25,8 +25,8 @@ macro_rules! row {
 
 const NO_KIND: Kind = row!(Thread 0 Nobody Nobody Nobody Nobody Nobody);
 
-// The table stands once, behind a reference: by value it would be made anew at each look. Behind a row stands the line of text that `records`
-// reads for its kind.
+// The table stands once, behind a reference: by value it would be made anew at each look. Behind a row stands the line of text that
+// `records` reads for its kind.
 const KINDS: &[Kind; ROWS] = &[
     row!(Thread 0 Nobody Nobody Nobody Nobody Nobody), // no kind
     row!(Interrupt 0 Any Any Nobody Nobody Nobody), // 1: tick

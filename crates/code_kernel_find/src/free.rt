@@ -25,8 +25,8 @@ pub fn free_message(messages: [Message; sizes::MESSAGES]) -> u8
     lowest_free(&messages, |r| !r.live)
 }
 
-// The place of the first record that is free. A function of its own in the program too: written out in its callers, the loop has the compiler
-// take the state apart and copy it record by record.
+// The place of the first record that is free. A function of its own in the program too: written out in its callers, the loop has the
+// compiler take the state apart and copy it record by record.
 #[inline(never)]
 fn lowest_free<T, F: Fn(&T) -> bool>(records: &[T], is_free: F) -> u8
     requires callable { F.IsAlwaysCallable is_free }

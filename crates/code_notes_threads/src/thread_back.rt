@@ -24,7 +24,8 @@ pub struct Threading {
     pub due: [u8; CAPACITY],
 }
 
-// Every record as it was, where the call did not touch it. A loop, since `map` takes several times as long, and each undo goes through here.
+// Every record as it was, where the call did not touch it. A loop, since `map` takes several times as long, and each undo goes through
+// here.
 fn all_younger(c: Call, new: [Thread; sizes::THREADS]) -> [Thread; sizes::THREADS]
     ensures { result ≡ map (younger_thread c) new }
 {

@@ -8,4 +8,5 @@ use Rattle.code_notes_semaphores.proofs.semaphore_back.younger_all.Given as goal
 
 abbrev pub invariant-loop-i : goal.invariant-loop-i
 invariant-loop-i l =
-    (length l.new ≡ semaphore_count) × (length l.old ≡ semaphore_count) × (l.old ≡ take l.i (map (younger_semaphore l.c) l.new) ++ drop l.i l.new)
+    (length l.new ≡ semaphore_count) × (length l.old ≡ semaphore_count)
+    × (l.old ≡ take l.i (map (younger_semaphore l.c) l.new) ++ drop l.i l.new)
