@@ -114,7 +114,8 @@ fn freed_from(t: u8, r: Message) -> Message
     if owns(t, r) { no_message() } else { r }
 }
 
-// Every message that thread t owns is freed, by a loop that isn't written out in the caller (see `code_kernel_find::free`),
+// The next two go over a table, and are functions of their own in the program too, as `lowest_free` of code_kernel_find is.
+// Every message that thread t owns is freed,
 #[inline(never)]
 fn freed_records(messages: [Message; sizes::MESSAGES], t: u8) -> [Message; sizes::MESSAGES]
     ensures { result ≡ map (freed_from t) messages }

@@ -59,7 +59,7 @@ fn aged(r: Thread) -> Thread
     }
 }
 
-// Every thread with ticks left loses one. A loop, since `map` takes five times as long, and each tick goes through here.
+// Every thread with ticks left loses one. A loop, since `map` takes several times as long, and each tick goes through here.
 fn aged_records(threads: [Thread; sizes::THREADS]) -> [Thread; sizes::THREADS]
     ensures { result ≡ map aged threads }
 {
