@@ -4,6 +4,7 @@
 // notes that were left, and how many rounds ended in the fresh state.
 #![tactic(auto)]
 
+ghost use Rattle.std.specs.Prelude.{◌≡◌, ◌≤◌};
 ghost use Rattle.spec_rules.specs.Rules.{Rules};
 
 use base_lines::input::read_full;
@@ -18,9 +19,10 @@ struct Run {
     used: usize,
 }
 
-// The undos, the bytes that were left and the rounds that ended in the fresh state, of one round or of all so far.
+// The rounds, the undos, the bytes that were left and the rounds that ended in the fresh state, of one round or of all so far.
 #[derive(Clone, Copy)]
 struct Total {
+    rounds: u64,
     undone: u64,
     left: u64,
     fresh: u64,
@@ -43,8 +45,11 @@ fn forward(s: &[u8], log: &mut [u8; 1048576]) -> Run
 }
 
 // A round that undid so many notes and ended in this state, with so much of the log left.
-fn ended(undone: u64, end: Kernel, left: usize) -> Total {
+fn ended(undone: u64, end: Kernel, left: usize) -> Total
+    ensures { (result.rounds ≡ 1) × (result.undone ≡ undone) }
+{
     Total {
+        rounds: 1,
         undone,
         left: left as u64,
         fresh: u64::from(replay::same_kernel(end, replay::fresh())),
@@ -52,40 +57,53 @@ fn ended(undone: u64, end: Kernel, left: usize) -> Total {
 }
 
 // Every note undone by a single public undo, until one is refused; there are no more notes than records.
-fn one_by_one(mut run: Run, log: &[u8]) -> Total {
-    let mut undone: u64 = 0;
-    for _ in 0..4096 {
+fn one_by_one(mut run: Run, log: &[u8]) -> Total
+    ensures { (result.rounds ≡ 1) × (result.undone ≤ 4096) }
+{
+    for undone in 0..4096 {
         let l = undos::undo(run.kernel, log, run.used);
         if l.answer.number != 0 {
-            break;
+            return ended(undone, run.kernel, run.used);
         }
         run.kernel = l.kernel;
         run.used = l.used;
-        undone = undone.wrapping_add(1);
     }
-    ended(undone, run.kernel, run.used)
+    ended(4096, run.kernel, run.used)
 }
 
 // The same in one call, which tests the state once.
-fn at_once(run: Run, log: &[u8]) -> Total {
+fn at_once(run: Run, log: &[u8]) -> Total
+    ensures { result.rounds ≡ 1 }
+{
     let r = undos::undo_many(run.kernel, log, run.used, 4096);
     ended(r.undone as u64, r.kernel, r.used)
 }
 
+// A round in the way that is asked for.
+fn round(single: bool, end: Run, log: &[u8]) -> Total
+    ensures { result.rounds ≡ 1 }
+{
+    if single {
+        one_by_one(end, log)
+    } else {
+        at_once(end, log)
+    }
+}
+
 // All of them, from the same end and the same log.
-fn all_rounds(single: bool, end: Run, log: &[u8; 1048576]) -> Total {
+fn all_rounds(single: bool, end: Run, log: &[u8; 1048576]) -> Total
+    ensures { result.rounds ≡ 64 }
+{
     let mut total = Total {
+        rounds: 0,
         undone: 0,
         left: 0,
         fresh: 0,
     };
-    for _ in 0..64 {
-        let r = if single {
-            one_by_one(end, log)
-        } else {
-            at_once(end, log)
-        };
+    for turn in 0..64 {
+        let r = round(single, end, log);
         total = Total {
+            rounds: turn + r.rounds,
             undone: total.undone.wrapping_add(r.undone),
             left: total.left.wrapping_add(r.left),
             fresh: total.fresh.wrapping_add(r.fresh),
@@ -103,10 +121,11 @@ fn main(rt: HostRuntime) -> io::Result<()> {
     let n = read_full(&mut input, &mut records)?;
     let run = forward(&records[..n], &mut log);
     let Total {
+        rounds,
         undone,
         left,
         fresh,
     } = all_rounds(way[0] == b's', run, &log);
     let whole = n / 16;
-    println!(rt; "records {whole} rounds 64 undone {undone} left {left} fresh {fresh}")
+    println!(rt; "records {whole} rounds {rounds} undone {undone} left {left} fresh {fresh}")
 }
