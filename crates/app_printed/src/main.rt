@@ -29,12 +29,15 @@ fn replayed(run: &mut Run, s: &[u8], out: &mut [u8]) -> usize
 {
     let mut log = [0u8; 4096];
     let mut end = 0;
+    // The state in a variable: behind the reference it would be copied once more for each record.
+    let mut k = run.kernel;
     for bytes in s.as_chunks::<16>().0 {
-        let l = replay::recorded(run.kernel, *bytes, &mut log, 0);
-        run.kernel = l.kernel;
+        let l = replay::recorded(k, *bytes, &mut log, 0);
+        k = l.kernel;
         run.serial = run.serial.wrapping_add(1);
         end = put_answer(out, end, run.serial, l.answer);
     }
+    run.kernel = k;
     end
 }
 
