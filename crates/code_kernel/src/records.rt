@@ -46,8 +46,7 @@ pub fn no_message() -> Message
     }
 }
 
-// The record at i of a table, or past its last one `none`. By an index and not by `get`: what is asked for is then read where it lies, and
-// not from a copy of the table.
+// The record at i of a table, or past its last one `none`.
 pub fn record_at<T: Copy>(records: &[T], i: usize, none: T) -> T
     ensures { result ≡ get_or records.now i none }
 {

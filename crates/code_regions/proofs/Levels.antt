@@ -7,8 +7,8 @@ use borrow.Author.Tests.{ltb-true, ltb-false}
 use borrow.Table.Steps.{cases}
 use Rattle.spec_regions.specs.Regions.{one_more}
 
-pub saturates : (n : ℕ) → n < 256 → min (n + 1) 255 ≡ one_more n
-saturates n b =
+pub saturates : (n m : ℕ) → n < 256 → m ≡ min (n + 1) 255 → m ≡ one_more n
+saturates n m b e =
     cases (ltb n 255)
-    (λ t. let h : n < 255 = ltb-true n 255 t in rw t (omega arith))
-    (λ f. let h : 255 ≤ n = ltb-false n 255 f in rw f (omega arith))
+    (λ t. let h : n < 255 = ltb-true n 255 t in rw t (omega (arith, e)))
+    (λ f. let h : 255 ≤ n = ltb-false n 255 f in rw f (omega (arith, e)))

@@ -1,5 +1,5 @@
 -- `code_regions::push_unscheduled` meets its contract.
-use Prim.Native.Nat.{◌<◌}
+use mathlib.Core.Path.{ap}
 use native.Mathlib.Omega.{arith}
 use Rattle.spec_regions.specs.Regions.{push_unscheduled}
 use Rattle.code_regions.proofs.Levels.{saturates}
@@ -7,6 +7,4 @@ use Rattle.code_regions.proofs.push_unscheduled.Goals as goal
 
 pub returns : goal.returns
 unfolding push_unscheduled
-returns c =
-    let fits : c.args.k.unscheduled < 256 = omega arith in
-    rw (c.saturating_add.ensures, saturates _ fits)
+returns c = ap (λ l. record c.args.k { unscheduled = l }) (saturates c.args.k.unscheduled _ (omega arith) (omega arith))

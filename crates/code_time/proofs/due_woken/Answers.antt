@@ -1,5 +1,5 @@
 -- `code_time::due_woken` meets its contract: of the members passed, those with one tick left have woken.
-use mathlib.Core.Path.{◌≡◌, sym, ap, ◌∙◌}
+use mathlib.Core.Path.{◌≡◌, ap}
 use native.Mathlib.Omega.{arith}
 use lib.ListN.{get_or}
 use borrow.Author.Tests.{eq-eqb, ne_eqb}
@@ -26,10 +26,10 @@ loop-t-preserved c =
       elim c.if-record_at-eq1.branch [
         | then-record_at-eq1 w ↦
             rw (w.next-is, w.time_up-next.ensures)
-            (walk_does time_up (is_due p.records) p all so-far (omega arith) (eq-eqb _ _ (sym e ∙ w.if-record_at-eq1.true)))
+            (walk_does time_up (is_due p.records) p all so-far (omega arith) (eq-eqb _ _ (omega (arith, e, w.if-record_at-eq1.true))))
         | else-record_at-eq1 w ↦
             rw w.next-is
-            (walk_skips time_up (is_due p.records) p all so-far (omega arith) (ne_eqb _ _ (λ z. w.if-record_at-eq1.false (e ∙ z))))
+            (walk_skips time_up (is_due p.records) p all so-far (omega arith) (ne_eqb _ _ (omega (arith, e, w.if-record_at-eq1.false))))
       ],
     )
 
